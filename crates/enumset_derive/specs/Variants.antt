@@ -8,6 +8,7 @@
 --     named_from, named_variants      variants after others, or all of an enum, each with its bit, or the first fault
 --     map_test      the fault of a map that needs an integer but does not have one
 --     bits_of      the bits of variants
+--     error_of      the error for an error of the tokens
 --     IsErrorOf      the error for a result: its fault, or out of memory
 use Rattle.std.specs.Prelude.{◌≡◌, ℕ, ◌==◌, Bool, ◌||◌, nat_le, nat_eq, List, [], ◌∷◌, ◌++◌, length, map, Option, Some, Result, Ok, Err, if◌then◌else◌}
 use Rattle.std.specs.List.{find}
@@ -16,6 +17,8 @@ use Rattle.std.specs.Result.{result_map_both}
 use Rattle.std.specs.Cmp.Lexicographic.{pointwise}
 use Rattle.enumset_tokens.specs.Numbers.{next_number}
 use Rattle.enumset_tokens.specs.declared.place.Place.{Place}
+use Rattle.enumset_tokens.specs.declared.token_error.TokenError.{TokenError}
+use Rattle.enumset_tokens.specs.declared.token_error.TokenError.TheVariants as token_error
 use Rattle.enumset_tokens.specs.declared.number.Number.{Number}
 use Rattle.enumset_tokens.specs.declared.number.Number.TheVariants.{Small}
 use Rattle.enumset_tokens.specs.declared.option_values.Map.{Map}
@@ -31,7 +34,7 @@ use Rattle.enumset_derive.specs.declared.fault.Fault.{Fault}
 use Rattle.enumset_derive.specs.declared.fault.DeriveError.{DeriveError}
 use Rattle.enumset_derive.specs.declared.fault.DeriveError.TheVariants as error
 use Rattle.enumset_derive.specs.declared.fault.Reason.{Reason}
-use Rattle.enumset_derive.specs.declared.fault.Reason.TheVariants.{IntegerMissing, TooManyVariants, NameTwice, ImpliedTooLarge, PastRepresentation, PastSerialized, PastWords, BitTwice, DiscriminantTwice}
+use Rattle.enumset_derive.specs.declared.fault.Reason.TheVariants.{Text, IntegerMissing, TooManyVariants, NameTwice, ImpliedTooLarge, PastRepresentation, PastSerialized, PastWords, BitTwice, DiscriminantTwice}
 
 abbrev pub fault_at : Place → Reason → Fault
 fault_at place reason = record { place = place; reason = reason }
@@ -88,6 +91,10 @@ named_variants d = and_then (map_test d.options.map d.options.representation) (�
 
 abbrev pub bits_of : List NamedVariant → List ℕ
 bits_of named = map (λ n. n.bit) named
+
+abbrev pub error_of : TokenError → DeriveError
+error_of (token_error.Fault place text) = error.Fault (fault_at place (Text text))
+error_of (token_error.OutOfMemory refused) = error.OutOfMemory refused
 
 abbrev pub IsErrorOf : {A : Type 0} → Result A Fault → DeriveError → Type 0
 IsErrorOf r (error.Fault fault) = r ≡ Err fault

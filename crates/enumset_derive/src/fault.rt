@@ -39,12 +39,22 @@ impl fmt::Display for DeriveError {
 impl Error for DeriveError {}
 
 impl From<Fault> for DeriveError {
+    ghost use Rattle.std.specs.Prelude.{◌≡◌};
+    ghost use Rattle.enumset_derive.specs.declared.fault.DeriveError.TheVariants as error;
+
+    ghost from_gives = { λ fault e. e ≡ error.Fault fault };
+
     fn from(fault: Fault) -> DeriveError {
         DeriveError::Fault(fault)
     }
 }
 
 impl From<TokenError> for DeriveError {
+    ghost use Rattle.std.specs.Prelude.{◌≡◌};
+    ghost use Rattle.enumset_derive.specs.Variants.{error_of};
+
+    ghost from_gives = { λ error e. e ≡ error_of error };
+
     fn from(error: TokenError) -> DeriveError {
         match error {
             TokenError::Fault(place, text) => DeriveError::Fault(Reason::Text(text).at(place)),
@@ -54,12 +64,22 @@ impl From<TokenError> for DeriveError {
 }
 
 impl From<AllocError> for DeriveError {
+    ghost use Rattle.std.specs.Prelude.{◌≡◌};
+    ghost use Rattle.enumset_derive.specs.declared.fault.DeriveError.TheVariants as error;
+
+    ghost from_gives = { λ refused e. e ≡ error.OutOfMemory refused };
+
     fn from(error: AllocError) -> DeriveError {
         DeriveError::OutOfMemory(error)
     }
 }
 
 impl<T: Drop> From<AllocFailed<T>> for DeriveError {
+    ghost use Rattle.std.specs.Prelude.{◌≡◌, alloc_error};
+    ghost use Rattle.enumset_derive.specs.declared.fault.DeriveError.TheVariants as error;
+
+    ghost from_gives = { λ _ e. e ≡ error.OutOfMemory alloc_error };
+
     fn from(_failed: AllocFailed<T>) -> DeriveError {
         DeriveError::OutOfMemory(AllocError)
     }

@@ -3,7 +3,8 @@
 //! `enumset_derive CRATE MODULE` reads the source from standard input and prints the module of this name in this crate.
 //! The module `bar` in the module `foo` is named `foo::bar`.
 //! With `-o FILE` the module is written to that file instead, unless the source has a fault.
-//! With `--bits FILE` the program also writes a file of definitions: the terms of contracts for the variants' bits.
+//! With `--bits FILE` the program also writes a file of definitions: the terms of contracts for the variants' bits, and
+//! for sets in JSON that consist of names.
 #![tactic(auto)]
 
 mod element;

@@ -1,7 +1,10 @@
 //! Reads the numbers of literals.
 
-ghost use Rattle.std.specs.Prelude.{◌≡◌, ◌*◌, ◌+◌, ◌^◌, ℕ, pos, IfOk, IfSome};
+ghost use Rattle.std.specs.Prelude.{◌≡◌, ◌≢◌, ◌<◌, ◌*◌, ◌+◌, ◌^◌, ℕ, pos, IfOk, MatchOption, MatchResult, SomeIff};
+ghost use Rattle.std.specs.Prelude.{EachIndex, slice_index};
 ghost use Rattle.enumset_tokens.specs.Literals.{radix, with_digit, number_in, number_written, value_of, IsReadOf};
+ghost use Rattle.enumset_tokens.specs.Literals.{IsDigit, IsExponent, IsNumber, IsNumberIn, base_written};
+ghost use Rattle.enumset_tokens.specs.declared.number.Number.TheVariants.{Small};
 
 use crate::number::Number;
 
@@ -30,7 +33,7 @@ impl Digits {
 
     /// The number with one more digit, in this base.
     fn next(self, base: Base, digit: u32) -> Digits
-        ensures { (n : ℕ) → IsReadOf n self → IsReadOf (n * radix base + digit) result }
+        ensures { (n : ℕ) → digit < radix base → IsReadOf (radix base) n self → IsReadOf (radix base) (n * radix base + digit) result }
     {
         Digits {
             number: self.next_number(base, digit),
@@ -40,25 +43,35 @@ impl Digits {
 
     /// The number with one more digit, if it fits in 128 bits.
     fn next_number(self, base: Base, digit: u32) -> Option<u128>
-        ensures { (n : ℕ) → IsReadOf n self → IfSome result (λ number. number ≡ n * radix base + digit) }
+        ensures { (n : ℕ) → IsReadOf (radix base) n self → SomeIff result (n * radix base + digit < 2 ^ 128) (n * radix base + digit) }
     {
         let shifted = self.number?.checked_mul(u128::from(base.radix()))?;
         shifted.checked_add(u128::from(digit))
     }
 
     /// The exponent of the number with one more digit, if that is known to be a power of two.
-    #[tactic(auto, using(crate::proofs::Digits::shifted_power))]
     fn next_exponent(self, base: Base, digit: u32) -> Option<u32>
-        ensures { (n : ℕ) → IsReadOf n self → IfSome result (λ exponent. n * radix base + digit ≡ 2 ^ exponent) }
+        ensures { (n : ℕ) → digit < radix base → IsReadOf (radix base) n self → MatchOption result ((e : ℕ) → IsExponent (radix base) (n * radix base + digit) e → ⊥) (IsExponent (radix base) (n * radix base + digit)) }
     {
-        match (self.number, digit) {
-            (Some(0), 1) => Some(0),
-            (Some(0), 2) => Some(1),
-            (Some(0), 4) => Some(2),
-            (Some(0), 8) => Some(3),
-            (_, 0) => self.exponent?.checked_add(base.bits()?),
+        match digit {
+            0 => self.exponent?.checked_add(base.bits()?),
+            _ if self.number == Some(0) => exponent_of(digit),
             _ => None,
         }
+    }
+}
+
+/// The exponent of a digit, if that is a power of two.
+#[tactic(auto, using(crate::proofs::Powers::no_exponent))]
+fn exponent_of(digit: u32) -> Option<u32>
+    ensures { digit < 16 → MatchOption result ((e : ℕ) → digit ≢ 2 ^ e) (λ exponent. digit ≡ 2 ^ exponent) }
+{
+    match digit {
+        1 => Some(0),
+        2 => Some(1),
+        4 => Some(2),
+        8 => Some(3),
+        _ => None,
     }
 }
 
@@ -85,7 +98,7 @@ impl Base {
 
     /// The number of bits in a digit, if the base is a power of two.
     fn bits(self) -> Option<u32>
-        ensures { IfSome result (λ bits. radix self ≡ 2 ^ bits) }
+        ensures { MatchOption result (radix self ≡ 10) (λ bits. (radix self ≢ 10) × (radix self ≡ 2 ^ bits)) }
     {
         match self {
             Base::Binary => Some(1),
@@ -105,22 +118,33 @@ pub fn without_type(literal: &str) -> &str {
 /// The number of a literal without a type suffix. If it does not fit in 128 bits, it must be a power of two, at most
 /// 2^(2^32 - 1).
 pub fn number_of(written: &str) -> Result<Number, &'static str>
-    ensures { IfOk result (λ number. value_of number ≡ pos (number_written written.now)) }
+    ensures read { MatchResult result
+        (λ number. IsNumber written.now × (value_of number ≡ pos (number_written written.now)))
+        (λ _. IsNumber written.now → ⊥) }
+    ensures small { IfOk result (λ number. number_written written.now < 2 ^ 128 → number ≡ Small (number_written written.now)) }
 {
-    match written.as_bytes() {
-        [zero, x, digits @ ..] if *zero == b'0' && *x == b'x' => number_in(
-            Base::Hexadecimal,
-            digits,
-        ),
-        [zero, o, digits @ ..] if *zero == b'0' && *o == b'o' => number_in(Base::Octal, digits),
-        [zero, b, digits @ ..] if *zero == b'0' && *b == b'b' => number_in(Base::Binary, digits),
-        digits => number_in(Base::Decimal, digits),
+    let (base, digits) = base_of(written.as_bytes());
+    number_in(base, digits)
+}
+
+/// The base of a literal, by its prefix, and its digits.
+fn base_of(written: &[u8]) -> (Base, &[u8])
+    ensures { (radix result.0, result.1.now) ≡ base_written written.now }
+{
+    match written {
+        [zero, x, digits @ ..] if *zero == b'0' && *x == b'x' => (Base::Hexadecimal, digits),
+        [zero, o, digits @ ..] if *zero == b'0' && *o == b'o' => (Base::Octal, digits),
+        [zero, b, digits @ ..] if *zero == b'0' && *b == b'b' => (Base::Binary, digits),
+        digits => (Base::Decimal, digits),
     }
 }
 
 /// The number of the digits in this base.
 fn number_in(base: Base, digits: &[u8]) -> Result<Number, &'static str>
-    ensures { IfOk result (λ number. value_of number ≡ pos (number_in (radix base) digits.now)) }
+    ensures read { MatchResult result
+        (λ number. IsNumberIn (radix base) digits.now × (value_of number ≡ pos (number_in (radix base) digits.now)))
+        (λ _. IsNumberIn (radix base) digits.now → ⊥) }
+    ensures small { IfOk result (λ number. number_in (radix base) digits.now < 2 ^ 128 → number ≡ Small (number_in (radix base) digits.now)) }
 {
     let read = read_digits(base, digits)?;
     match (read.number, read.exponent) {
@@ -133,7 +157,9 @@ fn number_in(base: Base, digits: &[u8]) -> Result<Number, &'static str>
 
 /// Reads digits in this base.
 fn read_digits(base: Base, digits: &[u8]) -> Result<Digits, &'static str>
-    ensures { IfOk result (IsReadOf (number_in (radix base) digits.now)) }
+    ensures { MatchResult result
+        (λ read. EachIndex digits.now (λ i. IsDigit (radix base) (slice_index digits.now i)) × IsReadOf (radix base) (number_in (radix base) digits.now) read)
+        (λ _. EachIndex digits.now (λ i. IsDigit (radix base) (slice_index digits.now i)) → ⊥) }
 {
     let mut read = Digits::NONE;
     for i in 0..digits.len() {
@@ -144,7 +170,8 @@ fn read_digits(base: Base, digits: &[u8]) -> Result<Digits, &'static str>
 
 /// The digits so far with one more byte, which is a digit or `_`.
 fn with_byte(read: Digits, base: Base, byte: u8) -> Result<Digits, &'static str>
-    ensures { (n : ℕ) → IsReadOf n read → IfOk result (IsReadOf (with_digit (radix base) n byte)) }
+    ensures tested { MatchResult result (λ _. IsDigit (radix base) byte) (λ _. IsDigit (radix base) byte → ⊥) }
+    ensures read { (n : ℕ) → IsReadOf (radix base) n read → IfOk result (IsReadOf (radix base) (with_digit (radix base) n byte)) }
 {
     if byte == b'_' {
         return Ok(read);

@@ -12,12 +12,22 @@ pub enum TokenError {
 }
 
 impl From<AllocError> for TokenError {
+    ghost use Rattle.std.specs.Prelude.{◌≡◌};
+    ghost use Rattle.enumset_tokens.specs.declared.token_error.TokenError.TheVariants.{OutOfMemory};
+
+    ghost from_gives = { λ error fault. fault ≡ OutOfMemory error };
+
     fn from(error: AllocError) -> TokenError {
         TokenError::OutOfMemory(error)
     }
 }
 
 impl<T: Drop> From<AllocFailed<T>> for TokenError {
+    ghost use Rattle.std.specs.Prelude.{◌≡◌, alloc_error};
+    ghost use Rattle.enumset_tokens.specs.declared.token_error.TokenError.TheVariants.{OutOfMemory};
+
+    ghost from_gives = { λ _ fault. fault ≡ OutOfMemory alloc_error };
+
     fn from(_failed: AllocFailed<T>) -> TokenError {
         TokenError::OutOfMemory(AllocError)
     }

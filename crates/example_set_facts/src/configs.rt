@@ -11,7 +11,8 @@ ghost use Rattle.enumset.specs.declared.set_json.fault.JsonFault.{JsonFault};
 ghost use Rattle.enumset.specs.declared.set_json.fault.JsonFault.TheVariants as fault;
 ghost use Rattle.enumset.specs.declared.set_json.unknown.Unknown.TheVariants as unknown;
 ghost use Rattle.example_set_facts.specs.Bits.{feature};
-ghost use Rattle.example_set_facts.specs.Features.{IsFaultOfBoth, feature_names, features_in, features_of};
+ghost use Rattle.example_set_facts.specs.Configs.{IsFaultOfBoth};
+ghost use Rattle.example_set_facts.specs.Features.{names, set_in, set_read};
 ghost use Rattle.serde_json.specs.Written.{compact_text};
 
 use crate::features::Feature;
@@ -45,7 +46,7 @@ impl From<JsonFault> for Refusal {
 
 /// The features that a text lists. A name of none is a fault.
 pub fn listed(alloc: Global, text: &str) -> Result<EnumSet<Feature>, JsonFault>
-    ensures { IsReadOf features_of text.now result }
+    ensures { IsReadOf set_read text.now result }
 {
     from_list_text(alloc, text, Unknown::Refuse)
 }
@@ -57,10 +58,10 @@ pub fn with_defaults(
     defaults: &EnumSet<Feature>,
 ) -> Result<EnumSet<Feature>, JsonFault>
     ensures defaults { IfOk result (λ s. set.is_subset defaults.now s ≡ true) }
-    ensures listed { (s : BitSet) → features_in text.now ≡ Some (Ok s)
+    ensures listed { (s : BitSet) → set_in text.now ≡ Some (Ok s)
         → IfOk result (λ all. all ≡ set.union s defaults.now) }
-    ensures read { IfOk result (λ _. option_map is_ok (features_in text.now) ≡ Some true) }
-    ensures fault { IfErr result (λ f. IsReadOf features_of text.now (Err f)) }
+    ensures read { IfOk result (λ _. option_map is_ok (set_in text.now) ≡ Some true) }
+    ensures fault { IfErr result (λ f. IsReadOf set_read text.now (Err f)) }
 {
     let listed = listed(alloc, text)?;
     Ok(listed.union(defaults.copied()))
@@ -68,9 +69,9 @@ pub fn with_defaults(
 
 /// The features that a text lists, or the fault of the reader as a refusal.
 pub fn read(alloc: Global, text: &str) -> Result<EnumSet<Feature>, Refusal>
-    ensures read { IfOk result (λ s. features_in text.now ≡ Some (Ok s)) }
+    ensures read { IfOk result (λ s. set_in text.now ≡ Some (Ok s)) }
     ensures unread { IfErr result (λ r. (f : JsonFault) × (r ≡ Refusal.Unread f)
-        × IsReadOf features_of text.now (Err f)) }
+        × IsReadOf set_read text.now (Err f)) }
 {
     Ok(from_list_text(alloc, text, Unknown::Refuse)?)
 }
@@ -121,15 +122,15 @@ pub fn checked(
 ) -> Result<EnumSet<Feature>, Refusal>
     ensures has { IfOk result (λ s. set.is_subset wanted.now s ≡ true) }
     ensures apart { IfOk result (λ s. set.is_disjoint s forbidden.now ≡ true) }
-    ensures listed { IfOk result (λ s. features_in text.now ≡ Some (Ok s)) }
+    ensures listed { IfOk result (λ s. set_in text.now ≡ Some (Ok s)) }
     ensures unread { IfErr result (λ r. (f : JsonFault) → r ≡ Refusal.Unread f
-        → IsReadOf features_of text.now (Err f)) }
+        → IsReadOf set_read text.now (Err f)) }
     ensures read { IfErr result (λ r. (s : BitSet) → (r ≡ Refusal.Missing s) ⊎ (r ≡ Refusal.Forbidden s)
-        → option_map is_ok (features_in text.now) ≡ Some true) }
-    ensures missing { (s : BitSet) → features_in text.now ≡ Some (Ok s)
+        → option_map is_ok (set_in text.now) ≡ Some true) }
+    ensures missing { (s : BitSet) → set_in text.now ≡ Some (Ok s)
         → IfErr result (λ r. (missing : BitSet) → r ≡ Refusal.Missing missing
         → (missing ≡ set.difference wanted.now s) × (set.is_subset wanted.now s ≡ false)) }
-    ensures refused { (s : BitSet) → features_in text.now ≡ Some (Ok s)
+    ensures refused { (s : BitSet) → set_in text.now ≡ Some (Ok s)
         → IfErr result (λ r. (refused : BitSet) → r ≡ Refusal.Forbidden refused
         → (refused ≡ set.intersection s forbidden.now)
         × (set.is_subset wanted.now s ≡ true) × (set.is_disjoint s forbidden.now ≡ false)) }
@@ -142,10 +143,10 @@ pub fn checked(
 /// Returns the place of the first name in a text that no feature has, or `None` if the text lists a set. Any other
 /// fault is returned as an error.
 pub fn unknown_name(alloc: Global, text: &str) -> Result<Option<usize>, JsonFault>
-    ensures place { IfOk result (λ found. IfSome found (λ place. features_in text.now
+    ensures place { IfOk result (λ found. IfSome found (λ place. set_in text.now
         ≡ Some (Err (fault.UnknownName place)))) }
-    ensures none { IfOk result (λ found. IfNone found (option_map is_ok (features_in text.now) ≡ Some true)) }
-    ensures fault { IfErr result (λ f. IsReadOf features_of text.now (Err f)) }
+    ensures none { IfOk result (λ found. IfNone found (option_map is_ok (set_in text.now) ≡ Some true)) }
+    ensures fault { IfErr result (λ f. IsReadOf set_read text.now (Err f)) }
     ensures other { IfErr result (λ f. (place : ℕ) → f ≢ fault.UnknownName place) }
 {
     match from_list_text::<Feature>(alloc, text, Unknown::Refuse) {
@@ -157,8 +158,8 @@ pub fn unknown_name(alloc: Global, text: &str) -> Result<Option<usize>, JsonFaul
 
 /// The text that lists features. It is read as these.
 pub fn written(alloc: Global, features: &EnumSet<Feature>) -> Result<String, JsonFault>
-    ensures text { IfOk result (λ text. string_bytes text ≡ compact_text (list_value feature_names features.now)) }
-    ensures reads { IfOk result (λ text. features_in (string_bytes text) ≡ Some (Ok features.now)) }
+    ensures text { IfOk result (λ text. string_bytes text ≡ compact_text (list_value names features.now)) }
+    ensures reads { IfOk result (λ text. set_in (string_bytes text) ≡ Some (Ok features.now)) }
     ensures fault { IfErr result (λ f. f ≡ fault.OutOfMemory) }
 {
     laws::json_list_and_back(features, Unknown::Refuse);
@@ -180,12 +181,12 @@ pub fn written_and_read<T: EnumSetNames>(
 
 /// The text that lists the features of a text and one more.
 pub fn with_feature(alloc: Global, text: &str, new: Feature) -> Result<String, JsonFault>
-    ensures reads { (s : BitSet) → features_in text.now ≡ Some (Ok s) → IfOk result (λ text. features_in
+    ensures reads { (s : BitSet) → set_in text.now ≡ Some (Ok s) → IfOk result (λ text. set_in
         (string_bytes text) ≡ Some (Ok (set.insert s (feature new)))) }
-    ensures text { (s : BitSet) → features_in text.now ≡ Some (Ok s) → IfOk result (λ text. string_bytes text
-        ≡ compact_text (list_value feature_names (set.insert s (feature new)))) }
-    ensures read { IfOk result (λ _. option_map is_ok (features_in text.now) ≡ Some true) }
-    ensures fault { IfErr result (λ f. IsReadOf features_of text.now (Err f)) }
+    ensures text { (s : BitSet) → set_in text.now ≡ Some (Ok s) → IfOk result (λ text. string_bytes text
+        ≡ compact_text (list_value names (set.insert s (feature new)))) }
+    ensures read { IfOk result (λ _. option_map is_ok (set_in text.now) ≡ Some true) }
+    ensures fault { IfErr result (λ f. IsReadOf set_read text.now (Err f)) }
 {
     let mut features = listed(alloc, text)?;
     features.insert(new);
@@ -221,14 +222,14 @@ pub fn has_reserved<T: EnumSetType>(alloc: Global, text: &str) -> Result<bool, J
 
 /// The number of the features that both texts list, if it fits a byte.
 pub fn number_of_both(alloc: Global, one: &str, other: &str) -> Result<String, JsonFault>
-    ensures number { (s t : BitSet) → features_in one.now ≡ Some (Ok s) → features_in other.now ≡ Some (Ok t)
+    ensures number { (s t : BitSet) → set_in one.now ≡ Some (Ok s) → set_in other.now ≡ Some (Ok t)
         → IfOk result (λ text. string_bytes text ≡ decimal (number (set.intersection s t))) }
-    ensures fits { (s t : BitSet) → features_in one.now ≡ Some (Ok s) → features_in other.now ≡ Some (Ok t)
+    ensures fits { (s t : BitSet) → set_in one.now ≡ Some (Ok s) → set_in other.now ≡ Some (Ok t)
         → IfOk result (λ _. set.is_subset (set.intersection s t) (set.below 8) ≡ true) }
-    ensures too_wide { (s t : BitSet) → features_in one.now ≡ Some (Ok s) → features_in other.now ≡ Some (Ok t)
+    ensures too_wide { (s t : BitSet) → set_in one.now ≡ Some (Ok s) → set_in other.now ≡ Some (Ok t)
         → IfErr result (λ f. f ≡ fault.TooWide → set.is_subset (set.intersection s t) (set.below 8) ≡ false) }
-    ensures read { IfOk result (λ _. (option_map is_ok (features_in one.now) ≡ Some true)
-        × (option_map is_ok (features_in other.now) ≡ Some true)) }
+    ensures read { IfOk result (λ _. (option_map is_ok (set_in one.now) ≡ Some true)
+        × (option_map is_ok (set_in other.now) ≡ Some true)) }
     ensures fault { IfErr result (IsFaultOfBoth one.now other.now) }
 {
     let both = listed(alloc, one)?.intersection(listed(alloc, other)?);

@@ -234,7 +234,7 @@ impl Feature {
         set_json::to_list(alloc, set)
     }
 
-    /// The set that `to_json` writes as this value. Names that no variant has are left out.
+    /// The set that `to_json` writes as this value. A name that no variant has is a fault.
     ///
     /// The faults are those of [`set_json::from_list`], in the same order. It does not allocate.
     pub fn from_json(
@@ -242,8 +242,8 @@ impl Feature {
     ) -> std::result::Result<EnumSet<Self>, set_json::JsonFault>
         ensures { result ≡ set_of_list
             (names_of ⟦<Feature as EnumSetType>⟧.elements ⟦<Feature as EnumSetNames>⟧.names)
-            unknown.Drop (view value.now) }
+            unknown.Refuse (view value.now) }
     {
-        set_json::from_list(value, set_json::Unknown::Drop)
+        set_json::from_list(value, set_json::Unknown::Refuse)
     }
 }

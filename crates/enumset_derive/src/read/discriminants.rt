@@ -1,7 +1,8 @@
 //! Reads discriminants.
 
-ghost use Rattle.std.specs.Prelude.{◌≡◌, ◌^◌, pos, neg_ℤ, IfOk};
+ghost use Rattle.std.specs.Prelude.{◌≡◌, ◌≢◌, ◌^◌, ℕ, pos, neg_ℤ, IfOk, IfErr};
 ghost use Rattle.enumset_tokens.specs.Literals.{value_of};
+ghost use Rattle.enumset_tokens.specs.declared.number.Number.TheVariants.{Small};
 
 use crate::fault::{Fault, TokenFaults};
 use crate::plan::Discriminant;
@@ -42,7 +43,8 @@ pub(super) fn read_discriminant<'a>(
 
 /// The negative of a number.
 fn negative(number: Number) -> Result<Number, &'static str>
-    ensures { IfOk result (λ negative. value_of negative ≡ neg_ℤ (value_of number)) }
+    ensures value { IfOk result (λ negative. value_of negative ≡ neg_ℤ (value_of number)) }
+    ensures fault { IfErr result (λ _. (n : ℕ) → number ≢ Small n) }
 {
     match number {
         Number::Small(0) => Ok(Number::Small(0)),

@@ -2,22 +2,32 @@
 
 use super::layout::{list_of, list_of_names, write_call, write_head};
 use super::{Subject, Written};
+use crate::element::Element;
+use std::alloc::Global;
+
+/// The names of an enum's variants in JSON.
+pub(super) fn json_names_of<'a>(alloc: Global, element: &'a Element) -> Written<Vec<&'a str>> {
+    let declaration = &element.declaration;
+    let mut names = Vec::new(alloc);
+    for (index, variant) in declaration.variants.iter().enumerate() {
+        let given = declaration.json_names.get(index);
+        names.push(given.map_or(variant.name, |json| json.as_str()))?;
+    }
+    Ok(names)
+}
 
 /// Writes the implementation of `EnumSetNames`.
 pub(super) fn write_names(out: &mut String, subject: &Subject) -> Written {
     let (alloc, name, element) = (subject.alloc, subject.name, subject.element);
     let mut items = vec![in alloc; format!(in alloc; "{name}:")?]?;
-    let mut names = Vec::new(alloc);
     for (index, variant) in element.declaration.variants.iter().enumerate() {
         let own = variant.name;
-        let given = element.declaration.json_names.get(index);
-        names.push(given.map_or(own, |json| json.as_str()))?;
-        items.push(match given {
+        items.push(match element.declaration.json_names.get(index) {
             Some(json) => format!(in alloc; "{own} \"{json}\"")?,
             None => String::from_str(alloc, own)?,
         })?;
     }
-    let names = list_of(alloc, 80, &names, "codes \"", "\"")?;
+    let names = list_of(alloc, 80, &json_names_of(alloc, element)?, "codes \"", "\"")?;
     let unfolded = if element.is_in_place() {
         "place"
     } else {
