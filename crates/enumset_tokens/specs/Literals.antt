@@ -1,6 +1,6 @@
 -- The numbers of literals.
 --     radix      the radix of a base
---     IsDigit      whether a byte is a digit in a base, or `_`
+--     IsDigit, AreDigits      whether a byte, or each byte, is a digit in a base, or `_`
 --     with_digit      a number with one byte more, which is a digit or `_`
 --     digits_after, number_in      a number with further digits;  the number of digits in a base
 --     base_written      the radix and the digits of a literal without a type suffix, by its prefix
@@ -9,9 +9,11 @@
 --     IsNumberIn, IsNumber      whether digits in a base, or a literal, are read: each byte is a digit or `_`, and the
 --         number is below 2^128, or a power of two that is not decimal
 --     value_of      the value of a discriminant
---     IsExponent, IsReadOf      what `Digits` records: of a power of two its exponent, in decimal only below 10;  the
---         number, if it is below 2^128, and that exponent
-use Rattle.std.specs.Prelude.{◌≡◌, ◌≢◌, ◌⊎◌, ◌<◌, ℕ, ◌+◌, ◌*◌, ◌^◌, ◌==◌, ◌&&◌, ℤ, pos, neg_ℤ, List, [], ◌∷◌, length, slice_index, EachIndex, MatchOption, SomeIff, if◌then◌else◌}
+--     IsExponent      whether a number in a base is 2 to this power, in decimal only if it is below 10
+--     IsNumberOf, IsExponentOf      the number if it is below 2^128, or else `None`;  its exponent if it has one, or else
+--         `None`
+--     IsReadOf      `Digits` records a number in a base so
+use Rattle.std.specs.Prelude.{◌≡◌, ◌≢◌, ◌⊎◌, ◌<◌, ℕ, ◌+◌, ◌*◌, ◌^◌, ◌==◌, ◌&&◌, ℤ, pos, neg_ℤ, List, [], ◌∷◌, Option, length, slice_index, EachIndex, MatchOption, SomeIff, if◌then◌else◌}
 use Rattle.std.specs.Char.{digit_value}
 use Rattle.enumset_tokens.specs.declared.number.Number.{Number}
 use Rattle.enumset_tokens.specs.declared.number.Number.TheVariants.{Small, PowerOfTwo, Negative}
@@ -28,6 +30,9 @@ radix Hexadecimal = 16
 -- 95 is `_`
 abbrev pub IsDigit : ℕ → ℕ → Type 0
 IsDigit r byte = (byte ≡ 95) ⊎ (digit_value byte < r)
+
+abbrev pub AreDigits : ℕ → List ℕ → Type 0
+AreDigits r bytes = EachIndex bytes (λ i. IsDigit r (slice_index bytes i))
 
 abbrev pub with_digit : ℕ → ℕ → ℕ → ℕ
 with_digit r n byte = if byte == 95 then n else n * r + digit_value byte
@@ -58,7 +63,7 @@ IsPower n e = (e < 2 ^ 32) × (n ≡ 2 ^ e)
 abbrev pub IsNumberIn : ℕ → List ℕ → Type 0
 IsNumberIn r bytes =
     (0 < length bytes)
-    × EachIndex bytes (λ i. IsDigit r (slice_index bytes i))
+    × AreDigits r bytes
     × ((number_in r bytes < 2 ^ 128) ⊎ ((r ≢ 10) × ((e : ℕ) × IsPower (number_in r bytes) e)))
 
 abbrev pub IsNumber : List ℕ → Type 0
@@ -72,7 +77,11 @@ value_of (Negative n) = neg_ℤ (pos n)
 abbrev pub IsExponent : ℕ → ℕ → ℕ → Type 0
 IsExponent r n e = IsPower n e × ((r ≢ 10) ⊎ (n < 10))
 
+abbrev pub IsNumberOf : ℕ → Option ℕ → Type 0
+IsNumberOf n number = SomeIff number (n < 2 ^ 128) n
+
+abbrev pub IsExponentOf : ℕ → ℕ → Option ℕ → Type 0
+IsExponentOf r n exponent = MatchOption exponent ((e : ℕ) → IsExponent r n e → ⊥) (IsExponent r n)
+
 abbrev pub IsReadOf : ℕ → ℕ → Digits → Type 0
-IsReadOf r n read =
-    SomeIff read.number (n < 2 ^ 128) n
-    × MatchOption read.exponent ((e : ℕ) → IsExponent r n e → ⊥) (IsExponent r n)
+IsReadOf r n read = IsNumberOf n read.number × IsExponentOf r n read.exponent

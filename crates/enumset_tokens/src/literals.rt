@@ -1,9 +1,9 @@
 //! Reads the numbers of literals.
 
-ghost use Rattle.std.specs.Prelude.{◌≡◌, ◌≢◌, ◌<◌, ◌*◌, ◌+◌, ◌^◌, ℕ, pos, IfOk, MatchOption, MatchResult, SomeIff};
-ghost use Rattle.std.specs.Prelude.{EachIndex, slice_index};
-ghost use Rattle.enumset_tokens.specs.Literals.{radix, with_digit, number_in, number_written, value_of, IsReadOf};
-ghost use Rattle.enumset_tokens.specs.Literals.{IsDigit, IsExponent, IsNumber, IsNumberIn, base_written};
+ghost use Rattle.std.specs.Prelude.{◌≡◌, ◌≢◌, ◌<◌, ◌*◌, ◌+◌, ◌^◌, ℕ, pos, IfOk, MatchOption, MatchResult};
+ghost use Rattle.enumset_tokens.specs.Literals.{radix, with_digit, number_in, base_written, number_written, value_of};
+ghost use Rattle.enumset_tokens.specs.Literals.{IsDigit, AreDigits, IsNumber, IsNumberIn};
+ghost use Rattle.enumset_tokens.specs.Literals.{IsNumberOf, IsExponentOf, IsReadOf};
 ghost use Rattle.enumset_tokens.specs.declared.number.Number.TheVariants.{Small};
 
 use crate::number::Number;
@@ -21,7 +21,7 @@ const TYPES: [&str; 12] = [
 struct Digits {
     /// The number, if it fits in 128 bits.
     number: Option<u128>,
-    /// Its exponent, if it is known to be a power of two.
+    /// Its exponent, if it is a power of two, at most 2^(2^32 - 1). In decimal only below 10.
     exponent: Option<u32>,
 }
 
@@ -33,7 +33,8 @@ impl Digits {
 
     /// The number with one more digit, in this base.
     fn next(self, base: Base, digit: u32) -> Digits
-        ensures { (n : ℕ) → digit < radix base → IsReadOf (radix base) n self → IsReadOf (radix base) (n * radix base + digit) result }
+        ensures { (n : ℕ) → IsReadOf (radix base) n self → digit < radix base
+            → IsReadOf (radix base) (n * radix base + digit) result }
     {
         Digits {
             number: self.next_number(base, digit),
@@ -43,15 +44,16 @@ impl Digits {
 
     /// The number with one more digit, if it fits in 128 bits.
     fn next_number(self, base: Base, digit: u32) -> Option<u128>
-        ensures { (n : ℕ) → IsReadOf (radix base) n self → SomeIff result (n * radix base + digit < 2 ^ 128) (n * radix base + digit) }
+        ensures { (n : ℕ) → IsReadOf (radix base) n self → IsNumberOf (n * radix base + digit) result }
     {
         let shifted = self.number?.checked_mul(u128::from(base.radix()))?;
         shifted.checked_add(u128::from(digit))
     }
 
-    /// The exponent of the number with one more digit, if that is known to be a power of two.
+    /// The exponent of the number with one more digit, if that has one.
     fn next_exponent(self, base: Base, digit: u32) -> Option<u32>
-        ensures { (n : ℕ) → digit < radix base → IsReadOf (radix base) n self → MatchOption result ((e : ℕ) → IsExponent (radix base) (n * radix base + digit) e → ⊥) (IsExponent (radix base) (n * radix base + digit)) }
+        ensures { (n : ℕ) → IsReadOf (radix base) n self → digit < radix base
+            → IsExponentOf (radix base) (n * radix base + digit) result }
     {
         match digit {
             0 => self.exponent?.checked_add(base.bits()?),
@@ -121,7 +123,8 @@ pub fn number_of(written: &str) -> Result<Number, &'static str>
     ensures read { MatchResult result
         (λ number. IsNumber written.now × (value_of number ≡ pos (number_written written.now)))
         (λ _. IsNumber written.now → ⊥) }
-    ensures small { IfOk result (λ number. number_written written.now < 2 ^ 128 → number ≡ Small (number_written written.now)) }
+    ensures small { IfOk result (λ number. number_written written.now < 2 ^ 128
+        → number ≡ Small (number_written written.now)) }
 {
     let (base, digits) = base_of(written.as_bytes());
     number_in(base, digits)
@@ -144,7 +147,8 @@ fn number_in(base: Base, digits: &[u8]) -> Result<Number, &'static str>
     ensures read { MatchResult result
         (λ number. IsNumberIn (radix base) digits.now × (value_of number ≡ pos (number_in (radix base) digits.now)))
         (λ _. IsNumberIn (radix base) digits.now → ⊥) }
-    ensures small { IfOk result (λ number. number_in (radix base) digits.now < 2 ^ 128 → number ≡ Small (number_in (radix base) digits.now)) }
+    ensures small { IfOk result (λ number. number_in (radix base) digits.now < 2 ^ 128
+        → number ≡ Small (number_in (radix base) digits.now)) }
 {
     let read = read_digits(base, digits)?;
     match (read.number, read.exponent) {
@@ -158,8 +162,8 @@ fn number_in(base: Base, digits: &[u8]) -> Result<Number, &'static str>
 /// Reads digits in this base.
 fn read_digits(base: Base, digits: &[u8]) -> Result<Digits, &'static str>
     ensures { MatchResult result
-        (λ read. EachIndex digits.now (λ i. IsDigit (radix base) (slice_index digits.now i)) × IsReadOf (radix base) (number_in (radix base) digits.now) read)
-        (λ _. EachIndex digits.now (λ i. IsDigit (radix base) (slice_index digits.now i)) → ⊥) }
+        (λ read. AreDigits (radix base) digits.now × IsReadOf (radix base) (number_in (radix base) digits.now) read)
+        (λ _. AreDigits (radix base) digits.now → ⊥) }
 {
     let mut read = Digits::NONE;
     for i in 0..digits.len() {
@@ -171,7 +175,8 @@ fn read_digits(base: Base, digits: &[u8]) -> Result<Digits, &'static str>
 /// The digits so far with one more byte, which is a digit or `_`.
 fn with_byte(read: Digits, base: Base, byte: u8) -> Result<Digits, &'static str>
     ensures tested { MatchResult result (λ _. IsDigit (radix base) byte) (λ _. IsDigit (radix base) byte → ⊥) }
-    ensures read { (n : ℕ) → IsReadOf (radix base) n read → IfOk result (IsReadOf (radix base) (with_digit (radix base) n byte)) }
+    ensures read { (n : ℕ) → IsReadOf (radix base) n read
+        → IfOk result (IsReadOf (radix base) (with_digit (radix base) n byte)) }
 {
     if byte == b'_' {
         return Ok(read);
