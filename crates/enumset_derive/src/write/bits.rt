@@ -146,7 +146,13 @@ fn write_json_terms(
     reader: &str,
 ) -> Written {
     let (suffix, model) = (&terms.suffix, terms.elements(alloc, element)?);
-    let names = list_of(alloc, 100, &json_names_of(alloc, element)?, "codes \"", "\"")?;
+    let names = list_of(
+        alloc,
+        100,
+        &json_names_of(alloc, element)?,
+        "codes \"",
+        "\"",
+    )?;
     let unknown = match element.declaration.options.denies_unknown {
         true => "Refuse",
         false => "Drop",
