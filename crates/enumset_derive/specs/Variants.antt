@@ -8,7 +8,7 @@
 --     named_from, named_variants      variants after others, or all of an enum, each with its bit, or the first fault
 --     map_test      the fault of a map that needs an integer but does not have one
 --     bits_of      the bits of variants
---     error_of      the error for an error of the tokens
+--     of_token_error      an error of the tokens as one of the program
 --     IsErrorOf      the error for a result: its fault, or out of memory
 use Rattle.std.specs.Prelude.{◌≡◌, ℕ, ◌==◌, Bool, ◌||◌, nat_le, nat_eq, List, [], ◌∷◌, ◌++◌, length, map, Option, Some, Result, Ok, Err, if◌then◌else◌}
 use Rattle.std.specs.List.{find}
@@ -92,9 +92,9 @@ named_variants d = and_then (map_test d.options.map d.options.representation) (�
 abbrev pub bits_of : List NamedVariant → List ℕ
 bits_of named = map (λ n. n.bit) named
 
-abbrev pub error_of : TokenError → DeriveError
-error_of (token_error.Fault place text) = error.Fault (fault_at place (Text text))
-error_of (token_error.OutOfMemory refused) = error.OutOfMemory refused
+abbrev pub of_token_error : TokenError → DeriveError
+of_token_error (token_error.Fault place text) = error.Fault (fault_at place (Text text))
+of_token_error (token_error.OutOfMemory refused) = error.OutOfMemory refused
 
 abbrev pub IsErrorOf : {A : Type 0} → Result A Fault → DeriveError → Type 0
 IsErrorOf r (error.Fault fault) = r ≡ Err fault

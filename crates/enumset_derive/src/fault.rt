@@ -51,9 +51,9 @@ impl From<Fault> for DeriveError {
 
 impl From<TokenError> for DeriveError {
     ghost use Rattle.std.specs.Prelude.{◌≡◌};
-    ghost use Rattle.enumset_derive.specs.Variants.{error_of};
+    ghost use Rattle.enumset_derive.specs.Variants.{of_token_error};
 
-    ghost from_gives = { λ error e. e ≡ error_of error };
+    ghost from_gives = { λ error e. e ≡ of_token_error error };
 
     fn from(error: TokenError) -> DeriveError {
         match error {

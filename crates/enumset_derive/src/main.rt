@@ -31,7 +31,7 @@ const NOT_A_NAME: DeriveError = DeriveError::Arguments("an argument is not a val
 
 const WRONG: DeriveError = DeriveError::Arguments(
     "usage: enumset_derive CRATE MODULE [-o FILE] [--bits FILE]; -o writes the module to FILE instead of standard \
-    output, and --bits writes the definition of a variant's bit in contracts to FILE",
+    output, and --bits writes terms for contracts to FILE",
 );
 
 /// What the program is to write, and where.
@@ -42,7 +42,7 @@ pub struct Request<'a> {
     pub module: String,
     /// The file that the module is written to, if not standard output.
     pub file: Option<&'a str>,
-    /// The file that the terms for bits are written to, if there is one.
+    /// The file that the terms for contracts are written to, if there is one.
     pub bits: Option<&'a str>,
 }
 

@@ -6,13 +6,13 @@
 --     base_written      the radix and the digits of a literal without a type suffix, by its prefix
 --     number_written      the number of such a literal
 --     IsPower      whether a number is 2 to this power, which has to be below 2^32
---     IsNumberIn, IsNumber      whether digits in a base, or a literal, are read: each byte is a digit or `_`, and the
---         number is below 2^128, or a power of two that is not decimal
+--     IsNumberIn, IsNumber      whether digits in a base, or a literal, are read: there is a byte, each is a digit or `_`,
+--         and the number is below 2^128, or unless it is decimal, 2 to a power below 2^32
 --     value_of      the value of a discriminant
 --     IsExponent      whether a number in a base is 2 to this power, in decimal only if it is below 10
 --     IsNumberOf, IsExponentOf      the number if it is below 2^128, or else `None`;  its exponent if it has one, or else
 --         `None`
---     IsReadOf      `Digits` records a number in a base so
+--     IsReadOf      whether `Digits` has the number and the exponent of a number in a base
 use Rattle.std.specs.Prelude.{◌≡◌, ◌≢◌, ◌⊎◌, ◌<◌, ℕ, ◌+◌, ◌*◌, ◌^◌, ◌==◌, ◌&&◌, ℤ, pos, neg_ℤ, List, [], ◌∷◌, Option, length, slice_index, EachIndex, MatchOption, SomeIff, if◌then◌else◌}
 use Rattle.std.specs.Char.{digit_value}
 use Rattle.enumset_tokens.specs.declared.number.Number.{Number}

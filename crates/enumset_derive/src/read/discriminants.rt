@@ -1,7 +1,8 @@
 //! Reads discriminants.
 
-ghost use Rattle.std.specs.Prelude.{◌≡◌, ◌≢◌, ◌^◌, ℕ, pos, neg_ℤ, IfOk, IfErr};
+ghost use Rattle.std.specs.Prelude.{◌≡◌, ◌<◌, ◌^◌, pos, neg_ℤ, Some, None, IfOk, MatchResult};
 ghost use Rattle.enumset_tokens.specs.Literals.{value_of};
+ghost use Rattle.enumset_tokens.specs.Numbers.{negated_number};
 ghost use Rattle.enumset_tokens.specs.declared.number.Number.TheVariants.{Small};
 
 use crate::fault::{Fault, TokenFaults};
@@ -44,7 +45,7 @@ pub(super) fn read_discriminant<'a>(
 /// The negative of a number.
 fn negative(number: Number) -> Result<Number, &'static str>
     ensures value { IfOk result (λ negative. value_of negative ≡ neg_ℤ (value_of number)) }
-    ensures fault { IfErr result (λ _. (n : ℕ) → number ≢ Small n) }
+    ensures negated { MatchResult result (λ n. negated_number number ≡ Some n) (λ _. negated_number number ≡ None) }
 {
     match number {
         Number::Small(0) => Ok(Number::Small(0)),
@@ -75,7 +76,8 @@ fn shifted(one: &str, places: &str) -> Result<Number, &'static str> {
 
 /// Two to a power.
 fn power_of_two(exponent: u32) -> Number
-    ensures { value_of result ≡ pos (2 ^ exponent) }
+    ensures value { value_of result ≡ pos (2 ^ exponent) }
+    ensures small { exponent < 128 → result ≡ Small (2 ^ exponent) }
 {
     match exponent {
         exponent if exponent < 128 => Number::Small(1 << exponent),

@@ -24,6 +24,9 @@ const OWN_JSON: &str =
     "this set in JSON consists of the variants' names: remove this derive and use `rename` for \
     other names, or write the set as a number";
 
+const OTHER_LIBRARY: &str =
+    "sets in JSON need `enumset`: remove this `crate_name`, or `serialize_repr`";
+
 const DENY_ALONE: &str = "`serialize_deny_unknown` has no effect without `serialize_repr`";
 
 const OTHER_ITEMS: [&str; 10] = [
@@ -236,7 +239,8 @@ impl<'a> EnumState<'a, '_> {
     }
 }
 
-/// Reports derives that would change the elements in JSON, and notes an option that has no effect.
+/// Reports a crate without sets in JSON and derives that would change the elements in JSON, and notes an option that has
+/// no effect.
 fn test_json<'a, 'b>(
     reader: &mut Reader<'a, 'b>,
     state: &EnumState<'a, 'b>,
@@ -248,6 +252,15 @@ fn test_json<'a, 'b>(
         let option = given.find(|option| option.is("serialize_deny_unknown"));
         let place = option.unwrap_or(&state.declaration.name).place;
         reader.report.note(Note::Text(place, DENY_ALONE))?;
+    }
+    let other = options
+        .crate_name
+        .filter(|(name, _)| *name == "enumset_sets");
+    if let Some((_, place)) = other.filter(|_| options.serialized.is_some()) {
+        reader
+            .report
+            .faults
+            .push(Reason::Text(OTHER_LIBRARY).at(place))?;
     }
     for attribute in attributes.iter().filter(|_| options.are_named()) {
         let is_conditional = attribute.is("cfg_attr");

@@ -13,38 +13,69 @@ use std::alloc::Global;
 const HEAD: &str =
     "-- Written by enumset_derive from the enum's source: change the source, and write this file again.\n";
 
-/// The imports of the terms for sets in JSON, but for those of their readers.
+/// What the terms for sets in JSON import besides the definitions that read them.
 const OF_JSON: &str = "use Rattle.enumset.specs.Names.{Names, names_of}
 use Rattle.enumset.specs.JsonReads.{value_read}
 use Rattle.enumset.specs.declared.set_json.fault.JsonFault.{JsonFault}
 use Rattle.enumset.specs.declared.set_json.unknown.Unknown.TheVariants as unknown
 use Rattle.serde_json.specs.Data.{Data}\n";
 
-/// The terms of one element type.
+/// The names that a file may import. An enum with such a name has another one in the file.
+const IMPORTED: [&str; 7] = [
+    "BitSet",
+    "Data",
+    "JsonFault",
+    "List",
+    "Names",
+    "Option",
+    "Result",
+];
+
+/// The names of one element type in the file.
 #[derive(Drop)]
 struct Terms {
-    /// What follows their names: nothing, or if there are several enums, `_of_` and the name of this one.
+    /// What follows `bit`, `names` or `set`: nothing, or if there are several enums, `_of_` and the name of this one.
     suffix: String,
     /// The name of the enum in the model of its elements, and how it is imported.
     subject: String,
     import: String,
+    /// The name of the type, and how it is imported.
+    type_name: String,
+    type_import: String,
 }
 
 impl Terms {
     /// The terms of the enum with this name, where `count` is the number of enums.
     fn of(alloc: Global, name: &str, count: usize) -> Written<Terms> {
-        if count == 1 {
-            return Ok(Terms {
-                suffix: String::new(alloc),
-                subject: String::from_str(alloc, "the_type")?,
-                import: String::from_str(alloc, "the_type")?,
-            });
-        }
+        let (type_name, type_import) = match IMPORTED.contains(&name) {
+            true => (
+                format!(in alloc; "Own{name}")?,
+                format!(in alloc; "{name} as Own{name}")?,
+            ),
+            false => (
+                String::from_str(alloc, name)?,
+                String::from_str(alloc, name)?,
+            ),
+        };
         let lower = name.to_ascii_lowercase(alloc)?;
+        let (suffix, subject, import) = match count {
+            1 => (
+                String::new(alloc),
+                String::from_str(alloc, "the_type")?,
+                String::from_str(alloc, "the_type")?,
+            ),
+            _ => (
+                format!(in alloc; "_of_{lower}")?,
+                format!(in alloc; "the_{lower}")?,
+                format!(in alloc; "the_type as the_{lower}")?,
+            ),
+        };
         Ok(Terms {
-            suffix: format!(in alloc; "_of_{lower}")?,
-            subject: format!(in alloc; "the_{lower}")?,
-            import: format!(in alloc; "the_type as the_{lower}")?,
+            suffix,
+            subject,
+            import,
+            type_name,
+            type_import,
         })
     }
 
@@ -67,7 +98,11 @@ pub fn bits_text(alloc: Global, request: &Request, elements: &[Element]) -> Text
     write_imports(&mut text, elements)?;
     for element in elements {
         let name = element.declaration.name.text;
-        let Terms { import, .. } = Terms::of(alloc, name, elements.len())?;
+        let Terms {
+            import,
+            type_import,
+            ..
+        } = Terms::of(alloc, name, elements.len())?;
         let (crate_name, module) = (request.crate_name, &request.module);
         write!(
             text,
@@ -75,19 +110,38 @@ pub fn bits_text(alloc: Global, request: &Request, elements: &[Element]) -> Text
         )?;
         write!(
             text,
-            "use Rattle.{crate_name}.specs.declared.{module}.{name}.{{{name}}}\n"
+            "use Rattle.{crate_name}.specs.declared.{module}.{name}.{{{type_import}}}\n"
         )?;
     }
     for element in elements {
         let name = element.declaration.name.text;
         let terms = Terms::of(alloc, name, elements.len())?;
-        let (suffix, model) = (&terms.suffix, terms.elements(alloc, element)?);
+        let model = terms.elements(alloc, element)?;
+        let (suffix, type_name) = (&terms.suffix, &terms.type_name);
         write!(
             text,
-            "\nabbrev pub bit{suffix} : {name} → ℕ\nbit{suffix} v = ({model}).bit v\n"
+            "\nabbrev pub bit{suffix} : {type_name} → ℕ\nbit{suffix} v = ({model}).bit v\n"
         )?;
         if let Some(reader) = reader_of(&element.declaration.options) {
-            write_json_terms(&mut text, alloc, element, &terms, reader)?;
+            let names = json_names_of(alloc, element)?;
+            let names = list_of(alloc, 100, &names, "codes \"", "\"")?;
+            let unknown = match element.declaration.options.denies_unknown {
+                true => "Refuse",
+                false => "Drop",
+            };
+            write!(
+                text,
+                "\n-- the names in JSON
+abbrev pub names{suffix} : Names
+names{suffix} = names_of ({model})
+    ({names})\n
+-- the set that `from_json` returns of a value, or the fault
+abbrev pub set{suffix}_read : Data → Result BitSet JsonFault
+set{suffix}_read = {reader} names{suffix} unknown.{unknown}\n
+-- the same of a text, or `None` if it is not JSON
+abbrev pub set{suffix}_in : List ℕ → Option (Result BitSet JsonFault)
+set{suffix}_in text = value_read set{suffix}_read text\n"
+            )?;
         }
     }
     Ok(text)
@@ -135,39 +189,4 @@ fn write_imports(out: &mut String, elements: &[Element]) -> Written {
         out.push_str(OF_JSON)?;
     }
     Ok(())
-}
-
-/// Writes the terms for sets in JSON, where this definition reads them.
-fn write_json_terms(
-    out: &mut String,
-    alloc: Global,
-    element: &Element,
-    terms: &Terms,
-    reader: &str,
-) -> Written {
-    let (suffix, model) = (&terms.suffix, terms.elements(alloc, element)?);
-    let names = list_of(
-        alloc,
-        100,
-        &json_names_of(alloc, element)?,
-        "codes \"",
-        "\"",
-    )?;
-    let unknown = match element.declaration.options.denies_unknown {
-        true => "Refuse",
-        false => "Drop",
-    };
-    write!(
-        out,
-        "\n-- the names in JSON
-abbrev pub names{suffix} : Names
-names{suffix} = names_of ({model})
-    ({names})\n
--- the set that `from_json` returns of a value, or the fault
-abbrev pub set{suffix}_read : Data → Result BitSet JsonFault
-set{suffix}_read = {reader} names{suffix} unknown.{unknown}\n
--- the same of a text, or `None` if it is not JSON
-abbrev pub set{suffix}_in : List ℕ → Option (Result BitSet JsonFault)
-set{suffix}_in text = value_read set{suffix}_read text\n"
-    )
 }
