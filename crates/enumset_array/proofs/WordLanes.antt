@@ -1,5 +1,5 @@
 -- Loops over lists of words, four words at a time.
-use Rattle.std.proofs.Common.{◌≡◌, ◌≢◌, ◌<◌, ◌≤◌, ℕ, zero, suc, ◌+◌, ◌*◌, ◌/◌, Bool, true, false, ◌&&◌, List, [], ◌∷◌, length, take, drop, get_or, set, add-one, ◌++◌, bit_and, bit_or, refl, sym, ap, ◌∙◌, arith, w64, map, ◌==◌, nat_eq, slice_index, bit_xor, take-append-drop, get_or-drop, take_all, take_at, drop_at, drop-drop, append-nil, append_assoc, length-append, length-drop, length-take-le}
+use Rattle.std.proofs.Common.{◌≡◌, ◌≢◌, ◌<◌, ◌≤◌, ℕ, zero, suc, ◌+◌, ◌-◌, ◌*◌, ◌/◌, Bool, true, false, ◌&&◌, List, [], ◌∷◌, length, take, drop, get_or, set, add-one, ◌++◌, bit_and, bit_or, refl, sym, ap, ◌∙◌, arith, w64, map, ◌==◌, nat_eq, slice_index, bit_xor, take-append-drop, get_or-drop, take_all, take_at, drop_at, drop-drop, append-nil, append_assoc, length-append, length-drop, length-take-le}
 use Rattle.std.proofs.Math.Bool.{and-true, and_assoc}
 use Rattle.std.proofs.Math.Seq.{take-add}
 use Rattle.std.proofs.lemmas.Bool.Decides.{nat_tests}
@@ -184,7 +184,16 @@ module _ (op : ℕ → ℕ → ℕ) (a b : List ℕ) (i n any : ℕ) (here : (an
   some_block some = let part = with_block in let whole = ap none_in (sym (take-append-drop (i + n) (zip2 op a b))) ∙ list_all-append (λ w. w == 0) (take (i + n) (zip2 op a b)) (drop (i + n) (zip2 op a b)) in grind (arith, nat_tests)
 
   -- the test of all results, at the last block
-  pub last_block : i + n ≡ length a → length a ≡ length b → none_in (take i (zip2 op a b)) ≡ true → (any == 0) ≡ none_in (zip2 op a b)
+  last_block : i + n ≡ length a → length a ≡ length b → none_in (take i (zip2 op a b)) ≡ true → (any == 0) ≡ none_in (zip2 op a b)
   last_block all long before =
       let whole : take (i + n) (zip2 op a b) ≡ zip2 op a b = take_all (i + n) (zip2 op a b) (omega (arith, all, length-zip2 op a b long)) in
       sym (ap none_in (sym whole) ∙ with_block ∙ ap (λ t. t && (any == 0)) before)
+
+-- the tests of the results before the last words, which follow k blocks of sixteen, and of all results
+pub last_words : (op : ℕ → ℕ → ℕ) (a b : List ℕ) (i k any : ℕ) → length a ≡ length b → i ≡ 16 * k → i ≤ length a → (any == 0) ≡ none_in (zip2 op (chunk i (length a - i) a) (chunk i (length b - i) b))
+    → none_in (take (16 * k) (zip2 op a b)) ≡ true → (none_in (take i (zip2 op a b)) ≡ true) × ((any == 0) ≡ none_in (zip2 op a b))
+last_words op a b i k any e is within here before =
+    let n : ℕ = length a - i in
+    let start = ap (λ j. none_in (take j (zip2 op a b))) is ∙ before in
+    let as_many : length b - i ≡ n = omega (arith, e) in
+    (start, last_block op a b i n any (here ∙ ap (λ m. none_in (zip2 op (chunk i n a) (chunk i m b))) as_many) (omega (arith, within)) e start)

@@ -1,6 +1,6 @@
 //! Operations on lists of words, four words at a time.
 
-ghost use Rattle.std.specs.Prelude.{◌≡◌, ◌<◌, ◌≤◌, ◌==◌, drop, length, map, nat_eq, not, sum_by};
+ghost use Rattle.std.specs.Prelude.{◌≡◌, ◌<◌, ◌≤◌, ◌==◌, IfSome, drop, is_none, length, map, nat_eq, not, sum_by, take, true};
 ghost use Rattle.std.specs.Cmp.Lexicographic.{pointwise};
 ghost use Rattle.std.specs.Int.{w64, bit_not};
 ghost use Rattle.std.specs.List.{list_all};
@@ -33,10 +33,10 @@ pub(crate) fn apply<O: SetOperation>(words: &mut [u64], others: &[u64])
 /// Replaces each word by the result for it and the other word in its place, and returns whether a word changed. The
 /// lists must have the same length.
 ///
-/// From sixteen words on, the words are tested first, up to the first sixteen of which one changes: so nothing is
-/// written if none changes. For fewer words one loop is faster. Inlined, the loops are compiled for N words: over 24
-/// words that takes a third fewer instructions.
-#[inline]
+/// From sixteen words on, the words are only read up to the first sixteen of which one changes, and written from there
+/// on. So nothing is written if no word changes, and only those sixteen are read twice. For fewer words one loop is
+/// faster. Inlined, the loops are compiled for N words: over 24 words that takes a third fewer instructions.
+#[inline(always)]
 pub(crate) fn apply_changes<O: SetOperation>(words: &mut [u64], others: &[u64]) -> bool
     requires { length words.old ≡ length others.now }
     ensures words { words.new ≡ zip2 O.of_words words.old others.now }
@@ -45,10 +45,12 @@ pub(crate) fn apply_changes<O: SetOperation>(words: &mut [u64], others: &[u64]) 
     if words.len() < 16 {
         return apply_and_compare::<O>(words, others);
     }
-    if yields_none::<Change<O>>(words, others) {
-        return false;
+    match first_result::<Change<O>>(words, others) {
+        None => return false,
+        // A loop over all words is compiled for N words, too.
+        Some(0) => apply::<O>(words, others),
+        Some(place) => apply::<O>(&mut words[place..], &others[place..]),
     }
-    apply::<O>(words, others);
     true
 }
 
@@ -87,24 +89,39 @@ pub(crate) fn invert(words: &mut [u64])
 }
 
 /// Whether the operation yields 0 for every pair of words. The lists must have the same length.
-///
-/// From sixteen words on it stops early: after the first pair if its result is not 0, and after each block of sixteen
-/// pairs with such a result. For fewer words there is one test, at the end.
 pub(crate) fn yields_none<O: SetOperation>(words: &[u64], others: &[u64]) -> bool
     requires { length words.now ≡ length others.now }
     ensures { result ≡ list_all (λ w. w == 0) (zip2 O.of_words words.now others.now) }
 {
+    first_result::<O>(words, others).is_none()
+}
+
+/// Returns a place below which the operation yields 0 for every pair of words, or `None` if it yields 0 for all pairs.
+/// The lists must have the same length.
+///
+/// From sixteen words on it stops early: at the first pair if its result is not 0, else at the first sixteen pairs with
+/// such a result, where the place is that of the first of them. For fewer words there is one test, at the end.
+#[inline(always)]
+fn first_result<O: SetOperation>(words: &[u64], others: &[u64]) -> Option<usize>
+    requires { length words.now ≡ length others.now }
+    ensures none { is_none result ≡ list_all (λ w. w == 0) (zip2 O.of_words words.now others.now) }
+    ensures place { IfSome result (λ i. (i ≤ length words.now)
+        × (list_all (λ w. w == 0) (take i (zip2 O.of_words words.now others.now)) ≡ true)) }
+{
     if words.len() >= 16 && O::on_words(words[0], others[0]) != 0 {
-        return false;
+        return Some(0);
     }
     for k in 0..words.len() / 16 {
         let i = 16 * k;
         if any_of::<O>(&words[i..i + 16], &others[i..i + 16]) != 0 {
-            return false;
+            return Some(i);
         }
     }
     let i = words.len() / 16 * 16;
-    any_of::<O>(&words[i..], &others[i..]) == 0
+    if any_of::<O>(&words[i..], &others[i..]) == 0 {
+        return None;
+    }
+    Some(i)
 }
 
 /// Returns a place such that the lists are equal from there to their ends. They must have the same length.

@@ -12,7 +12,7 @@ pub fn digest(alloc: Global, seed: u32, rounds: u32) -> Result<u64, AllocError> 
 }
 
 /// Calls that change a set in place, that take a reference and that take members out.
-struct InPlace;
+pub(crate) struct InPlace;
 
 impl Flow for InPlace {
     fn settle<T: EnumSetType>(nodes: &mut Vec<Node<T>>, digest: &mut Digest) {
@@ -52,7 +52,7 @@ impl Flow for InPlace {
 }
 
 /// Makes `facts` those that are known at the sources of a node.
-fn gather<T: EnumSetType>(nodes: &[Node<T>], at: usize, facts: &mut EnumSet<T>) {
+pub(crate) fn gather<T: EnumSetType>(nodes: &[Node<T>], at: usize, facts: &mut EnumSet<T>) {
     let Some(node) = nodes.get(at) else {
         return;
     };

@@ -10,6 +10,7 @@ mod decode;
 mod digest;
 mod far;
 mod flow;
+mod flow_by_answers;
 mod flow_in_place;
 mod json;
 mod random;
@@ -29,6 +30,7 @@ fn digest_of(alloc: Global, job: &str, seed: u32, rounds: u32) -> Option<Result<
         "decide" => decide::digest(alloc, seed, rounds),
         "flow" => flow::digest(alloc, seed, rounds),
         "flow_in_place" => flow_in_place::digest(alloc, seed, rounds),
+        "flow_by_answers" => flow_by_answers::digest(alloc, seed, rounds),
         "decode" => decode::digest(alloc, seed, rounds),
         "commands" => commands::digest(alloc, seed, rounds),
         _ => return None,
@@ -49,7 +51,7 @@ fn run<R: Env + Print + Eprint + AllocGlobal>(rt: &R) -> io::Result<ExitCode> {
         }
     }
     eprintln!(rt;
-        "usage: enumset_bench json|decide|flow|flow_in_place|decode|commands SEED ROUNDS"
+        "usage: enumset_bench json|decide|flow|flow_in_place|flow_by_answers|decode|commands SEED ROUNDS"
     )?;
     Ok(ExitCode::from(2))
 }

@@ -1,7 +1,7 @@
 use Rattle.std.proofs.Common.{◌≡◌, ◌*◌, take, true}
 use Rattle.std.specs.Simd.Lanes.{zip2}
 use Rattle.enumset_array.proofs.WordLanes.{none_in}
-use Rattle.enumset_array.proofs.lanes.yields_none.Given as goal
+use Rattle.enumset_array.proofs.lanes.first_result.Given as goal
 
 -- each result so far is 0
 abbrev pub invariant-loop-k : goal.invariant-loop-k
