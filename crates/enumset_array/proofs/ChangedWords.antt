@@ -1,11 +1,10 @@
 -- Which words of a list differ from the results that replace them.
-use Rattle.std.proofs.Common.{◌≡◌, ◌<◌, ◌≤◌, ℕ, ◌+◌, ◌-◌, List, [], ◌∷◌, ◌++◌, true, length, take, drop, get_or, sym, ap, ◌∙◌, arith, ◌==◌, nat_eq, slice_index, refl, bit_or, bit_xor, take_all, drop_at, append-nil, length-drop, length-take-le, take-append-drop}
+use Rattle.std.proofs.Common.{◌≡◌, ◌<◌, ◌≤◌, ℕ, ◌+◌, List, [], ◌∷◌, true, length, take, drop, get_or, sym, ap, ◌∙◌, arith, ◌==◌, nat_eq, slice_index, refl, bit_or, bit_xor, take_all, drop_at, length-drop, length-take-le}
 use Rattle.std.proofs.lemmas.Bool.Decides.{nat_tests}
-use Rattle.std.proofs.lemmas.List.{drop_all, drop_more}
+use Rattle.std.proofs.lemmas.List.{drop_more}
 use Rattle.std.proofs.lemmas.Simd.{length-zip2, get_or-zip2}
 use Rattle.std.specs.Cmp.Lexicographic.{pointwise}
 use Rattle.std.specs.Simd.Lanes.{zip2, chunk}
-use borrow.Rule.Slice.PartMut.{put_mid}
 use Rattle.enumset_array.proofs.WordLanes.{PartMade, all_made, none_in, none_apart, chunk-zip2, joined_none, one_none, changed_lanes}
 
 same_words : (a b : List ℕ) → length a ≡ length b → pointwise nat_eq a b ≡ true → a ≡ b
@@ -67,17 +66,8 @@ module _ (op : ℕ → ℕ → ℕ) (a b : List ℕ) where
     pub none_changes : none_in (zip2 (λ x y. bit_xor x (op x y)) a b) ≡ true → a ≡ zip2 op a b
     none_changes none = same_words a (zip2 op a b) (sym (length-zip2 op a b e)) (sym changes_none ∙ none)
 
--- the words from place i on are replaced by their results, and none before them changes
-pub rest_made : (op : ℕ → ℕ → ℕ) (a b ws : List ℕ) (i : ℕ) → length a ≡ length b → i ≤ length a → none_in (take i (zip2 (λ x y. bit_xor x (op x y)) a b)) ≡ true
-    → ws ≡ zip2 op (chunk i (length a - i) a) (chunk i (length b - i) b) → put_mid i (length a - i) a ws ≡ zip2 op a b
-rest_made op a b ws i e within none is =
-    let all = zip2 op a b in
-    let n : ℕ = length a - i in
-    let kept : take i a ≡ take i all =
+-- the first i words, if none of them changes
+pub same_before : (op : ℕ → ℕ → ℕ) (a b : List ℕ) (i : ℕ) → length a ≡ length b → i ≤ length a → none_in (take i (zip2 (λ x y. bit_xor x (op x y)) a b)) ≡ true → take i a ≡ take i (zip2 op a b)
+same_before op a b i e within none =
     none_changes op (take i a) (take i b) (length-take-le i a within ∙ sym (length-take-le i b (omega (arith, within, e))))
-    (ap none_in (sym (chunk-zip2 (λ x y. bit_xor x (op x y)) 0 i a b)) ∙ none) ∙ sym (chunk-zip2 op 0 i a b) in
-    let as_many : length b - i ≡ n = omega (arith, e) in
-    let made : ws ≡ drop i all =
-    is ∙ ap (λ m. zip2 op (chunk i n a) (chunk i m b)) as_many ∙ sym (chunk-zip2 op i n a b) ∙ take_all n (drop i all) (omega (arith, length-drop i all, length-zip2 op a b e)) in
-    let past : drop n (drop i a) ≡ [] = drop_all n (drop i a) (omega (arith, length-drop i a)) in
-    (λ m. kept m ++ (made m ++ past m)) ∙ ap (λ l. take i all ++ l) (append-nil (drop i all)) ∙ take-append-drop i all
+    (ap none_in (sym (chunk-zip2 (λ x y. bit_xor x (op x y)) 0 i a b)) ∙ none) ∙ sym (chunk-zip2 op 0 i a b)

@@ -1,5 +1,5 @@
 -- Loops over lists of words, four words at a time.
-use Rattle.std.proofs.Common.{◌≡◌, ◌≢◌, ◌<◌, ◌≤◌, ℕ, zero, suc, ◌+◌, ◌-◌, ◌*◌, ◌/◌, Bool, true, false, ◌&&◌, List, [], ◌∷◌, length, take, drop, get_or, set, add-one, ◌++◌, bit_and, bit_or, refl, sym, ap, ◌∙◌, arith, w64, map, ◌==◌, nat_eq, slice_index, bit_xor, take-append-drop, get_or-drop, take_all, take_at, drop_at, drop-drop, append-nil, append_assoc, length-append, length-drop, length-take-le}
+use Rattle.std.proofs.Common.{◌≡◌, ◌≢◌, ◌<◌, ◌≤◌, ℕ, zero, suc, ◌+◌, ◌-◌, ◌*◌, ◌/◌, Bool, true, false, ◌&&◌, List, [], ◌∷◌, length, take, drop, get_or, set, add-one, ◌++◌, bit_and, bit_or, refl, sym, ap, ◌∙◌, arith, w64, map, ◌==◌, nat_eq, slice_index, bit_xor, take-append-drop, get_or-drop, take_all, take_at, take-take, drop_at, drop-drop, append-nil, append_assoc, length-append, length-drop, length-take-le}
 use Rattle.std.proofs.Math.Bool.{and-true, and_assoc}
 use Rattle.std.proofs.Math.Seq.{take-add}
 use Rattle.std.proofs.lemmas.Bool.Decides.{nat_tests}
@@ -42,6 +42,10 @@ module _ (op : ℕ → ℕ → ℕ) (a b : List ℕ) where
   -- ws is the list a with its first i words replaced by the results of op for these words of a and b
   abbrev pub PartMade : ℕ → List ℕ → Type 0
   PartMade i ws = ws ≡ take i all ++ drop i a
+
+  -- the list itself, if its first words are the results for them
+  pub made_before : (i j : ℕ) → i ≤ j → take j a ≡ take j all → PartMade i a
+  made_before i j low same = sym (take-append-drop i a) ∙ ap (λ l. l ++ drop i a) (sym (take-take i j a low) ∙ ap (take i) same ∙ take-take i j all low)
 
   pub all_made : (ws : List ℕ) (i : ℕ) → length a ≡ length b → length a ≤ i → PartMade i ws → ws ≡ all
   all_made ws i e past part =

@@ -17,7 +17,19 @@ pub(crate) fn apply<O: SetOperation>(words: &mut [u64], others: &[u64])
     requires { length words.old ≡ length others.now }
     ensures { words.new ≡ zip2 O.of_words words.old others.now }
 {
-    for k in 0..words.len() / 4 {
+    apply_from::<O>(words, others, 0);
+}
+
+/// Replaces each word from a place on by the result for it and the other word in its place. The words before must be the
+/// results for them. The lists must have the same length.
+#[inline]
+fn apply_from<O: SetOperation>(words: &mut [u64], others: &[u64], place: usize)
+    requires length { length words.old ≡ length others.now }
+    requires within { place ≤ length words.old }
+    requires same { take place words.old ≡ take place (zip2 O.of_words words.old others.now) }
+    ensures { words.new ≡ zip2 O.of_words words.old others.now }
+{
+    for k in place / 4..words.len() / 4 {
         let i = 4 * k;
         let lanes = O::on_lanes(
             u64x4::from_slice(&words[i..]),
@@ -47,9 +59,9 @@ pub(crate) fn apply_changes<O: SetOperation>(words: &mut [u64], others: &[u64]) 
     }
     match first_result::<Change<O>>(words, others) {
         None => return false,
-        // A loop over all words is compiled for N words, too.
+        // From the start, the loop is compiled for N words, too.
         Some(0) => apply::<O>(words, others),
-        Some(place) => apply::<O>(&mut words[place..], &others[place..]),
+        Some(place) => apply_from::<O>(words, others, place),
     }
     true
 }

@@ -1,6 +1,6 @@
 use Rattle.std.proofs.Common.{◌*◌}
 use Rattle.enumset_array.proofs.WordLanes.{PartMade}
-use Rattle.enumset_array.proofs.lanes.apply.Given as goal
+use Rattle.enumset_array.proofs.lanes.apply_from.Given as goal
 
 -- the words so far are replaced, and the others are not
 abbrev pub invariant-loop-k : goal.invariant-loop-k
