@@ -63,6 +63,16 @@ module _ (op : ℕ → ℕ → ℕ) (a b : List ℕ) where
       ∙ (λ m. made m ++ (chunk i n all ++ drop (four m) (kept m))) ∙ sym (append_assoc (take i all) (chunk i n all) (drop n (drop i a)))
       ∙ (λ m. sym (take-add i n all) m ++ drop-drop n i a m) ∙ ap (λ k. take k all ++ drop k a) (sym next)
 
+  -- the combined words after a block of them is replaced
+  pub block_made : (ws : List ℕ) (i n m j : ℕ) → length a ≡ length b → m ≡ n → j ≡ i + n → j ≤ length a → PartMade i ws → PartMade j (take i ws ++ (zip2 op (chunk i n ws) (chunk i m b) ++ drop n (drop i ws)))
+  block_made ws i n m j e same next within part =
+      let long : length ws ≡ length a = omega (arith, ap length part, length-append (take i all) (drop i a), length-drop i a, length-take-le i all (omega (arith, next, within, length-zip2 op a b e))) in
+      let fits : i + n ≤ length ws = omega (arith, next, within, long) in
+      let made : List ℕ = zip2 op (chunk i n ws) (chunk i n b) in
+      let size : length made ≡ n = length-zip2 op (chunk i n ws) (chunk i n b) (length-chunk i n ws fits ∙ sym (length-chunk i n b (omega (arith, fits, long, e)))) ∙ length-chunk i n ws fits in
+      (λ k. take i ws ++ (zip2 op (chunk i n ws) (chunk i (same k) b) ++ drop (sym size k) (drop i ws)))
+      ∙ sym (put_chunk_is i ws made (omega (arith, size, fits))) ∙ lanes_made ws i n j e next within part
+
   -- the combined words after one more of them is replaced
   pub one_made : (ws : List ℕ) (i : ℕ) → length a ≡ length b → i < length a → PartMade i ws → PartMade (i + 1) (set ws i (op (slice_index ws i) (slice_index b i)))
   one_made ws i e low part =
