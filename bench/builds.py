@@ -2,12 +2,11 @@
 
 import os
 import pathlib
-import shutil
 import subprocess
 import sys
 
-TOP = pathlib.Path(__file__).resolve().parent.parent
-LIBRARIES = ["enumset_repr", "enumset_array", "enumset_sets", "enumset_mixed", "enumset"]
+sys.path.insert(0, str(pathlib.Path(__file__).resolve().parent.parent / "scripts"))
+from sources import TOP, copy_libraries  # noqa: E402
 
 
 def run(command, folder, given="", **variables):
@@ -28,13 +27,7 @@ def new_crate(folder, name, line, elements):
     crates.txt, and gets a module `elements` of these enums.
     """
     run(["rt", "lib"], TOP / "crates" / "enumset")
-    for library in LIBRARIES:
-        copy = folder / "crates" / library
-        shutil.rmtree(copy, ignore_errors=True)
-        shutil.copytree(TOP / "crates" / library, copy, ignore=shutil.ignore_patterns("incremental"))
-    lines = (TOP / "crates.txt").read_text(encoding="utf-8").splitlines()
-    lines = [line for line in lines if line.split(":")[0] in LIBRARIES]
-    (folder / "crates.txt").write_text("\n".join([*lines, line]) + "\n", encoding="utf-8")
+    copy_libraries(folder, line, "incremental")
     sources = folder / "crates" / name / "src"
     sources.mkdir(parents=True, exist_ok=True)
     run([TOP / "bin" / "enumset_derive", name, "elements", "-o", sources / "elements.rt"], folder, elements)

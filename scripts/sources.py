@@ -1,10 +1,12 @@
 """Reads the sources of the crates: the items of a file, with their sentences and clauses, and their paths.
 
-The scripts that write pages use it. It finds modules by what `lib.rt` declares, and items by what the files say.
+The scripts that write pages use it. It finds modules by what `lib.rt` declares, and items by what the files say. For
+scripts that check or time code over the libraries it also copies them to another repository.
 """
 
 import pathlib
 import re
+import shutil
 from dataclasses import dataclass, field
 
 TOP = pathlib.Path(__file__).resolve().parent.parent
@@ -15,6 +17,8 @@ KIND = re.compile(
     r"(?P<ghost>ghost )|(?P<shown>pub(?:\((?:crate|super)\))? )?(?:(?:final|const|unsafe) (?=[\w ]*fn ))*"
     r"(?P<kind>(?:fn|struct|enum|trait|const|type|impl|mod|use)\b|macro_rules!)"
 )
+# The kinds of items that a path can name.
+NAMED = ("fn", "struct", "enum", "trait", "const", "type")
 
 
 @dataclass
@@ -38,6 +42,11 @@ class Item:
     def first_sentence(self):
         """The first sentence of what is said of it."""
         return first_sentence(self.doc)
+
+
+def anchor(heading):
+    """The name by which a link reaches a heading."""
+    return re.sub(r"[^\w -]", "", heading.lower()).replace(" ", "-")
 
 
 def first_sentence(text):
@@ -208,8 +217,7 @@ def all_modules(module):
 
 def declared(module, name):
     """The item of this name that a module declares, or None."""
-    kinds = ("fn", "struct", "enum", "trait", "const", "type")
-    return next((item for item in module.items if item.kind in kinds and item.name == name), None)
+    return next((item for item in module.items if item.kind in NAMED and item.name == name), None)
 
 
 def looked_up(crates, module, segments):
@@ -246,8 +254,7 @@ def reached(crates, module, path=None):
     """Each public item that a path from a module reaches: the path, and the item."""
     path = path or module.path
     for item in module.items:
-        kinds = ("fn", "struct", "enum", "trait", "const", "type")
-        if item.kind in kinds and item.is_public:
+        if item.kind in NAMED and item.is_public:
             yield (*path, item.name), item
     for name, segments in module.handed_on.items():
         found = looked_up(crates, module, segments)
@@ -322,3 +329,17 @@ def library_names():
             for item in module.items:
                 names |= {m.name for m in item.members if item.kind in ("impl", "trait") and m.kind == "fn"}
     return names
+
+
+def copy_libraries(folder, line, *left_out):
+    """Copies the libraries, without files of these names, to a repository in a folder.
+
+    A further crate there is to have this line of crates.txt.
+    """
+    for crate in LIBRARIES:
+        copy = folder / "crates" / crate
+        shutil.rmtree(copy, ignore_errors=True)
+        shutil.copytree(TOP / "crates" / crate, copy, ignore=shutil.ignore_patterns(*left_out))
+    lines = (TOP / "crates.txt").read_text(encoding="utf-8").splitlines()
+    kept = [each for each in lines if each.split(":")[0] in LIBRARIES]
+    (folder / "crates.txt").write_text("\n".join([*kept, line]) + "\n", encoding="utf-8")
