@@ -1,5 +1,5 @@
 -- What is read, one part after another.
-use Rattle.std.proofs.Common.{◌≡◌, ℕ, List, [], ◌∷◌, ◌++◌, Result, Ok, Err, Option, Some, map, refl, ap, sym, append_assoc}
+use Rattle.std.proofs.Common.{◌≡◌, ◌↔◌, ℕ, List, [], ◌∷◌, ◌++◌, false, true, Result, Ok, Err, IsOk, IsErr, Option, Some, map, refl, ap, sym, append_assoc}
 use Rattle.example_permissions.specs.Answers.{grant_seen}
 use Rattle.example_permissions.specs.declared.policy.Grant.{Grant}
 use Rattle.serde_json.specs.Data.{Data}
@@ -32,3 +32,8 @@ request_right users words name more user asked cut known read = rw (cut, known, 
 
 pub request_wrong : (users : List ℕ → Option User) (words : List (List ℕ)) (name : List ℕ) (more : List (List ℕ)) (user : User) (trouble : Trouble) → words ≡ name ∷ more → users name ≡ Some user → rights_in empty more ≡ Err trouble → request_in users words ≡ Err trouble
 request_wrong users words name more user trouble cut known read = rw (cut, known, read) refl
+
+-- a fault for a request that cannot be read
+pub not_answered : {A E : Type 0} (r : Result A E) → IsErr r → IsOk r ↔ (false ≡ true)
+not_answered (Ok a) err = (λ ok. err, λ no. refl)
+not_answered (Err e) err = (λ no. no, λ no. no)

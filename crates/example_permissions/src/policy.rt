@@ -1,6 +1,6 @@
 //! What roles grant, and what a user has.
 
-ghost use Rattle.std.specs.Prelude.{◌≡◌, ◌++◌, ◌∷◌, [], List, OnOk, OnErr};
+ghost use Rattle.std.specs.Prelude.{◌≡◌, ◌≤◌, ◌++◌, ◌∷◌, [], List, vec_len, vec_capacity, OnOk, OnErr};
 ghost use Rattle.enumset.specs.Sets as set;
 ghost use Rattle.example_permissions.specs.Policy.{role_bit, right_bit, IsAllowed};
 ghost use Rattle.example_permissions.specs.declared.policy.Grant.{Grant};
@@ -29,6 +29,7 @@ pub struct User {
 pub fn add_grant(grants: &mut Vec<Grant>, grant: Grant) -> Result<(), AllocError>
     ensures granted { OnOk result (grants.new.items ≡ grants.old.items ++ (grant ∷ [])) }
     ensures unchanged { OnErr result (grants.new.items ≡ grants.old.items) }
+    ensures full { OnErr result (vec_capacity grants.old ≤ vec_len grants.old) }
     ensures never_less { (user : User) (asked : set.BitSet) →
         IsAllowed grants.old.items user asked → IsAllowed grants.new.items user asked }
 {

@@ -1,6 +1,6 @@
 //! Policies and requests as texts.
 
-ghost use Rattle.std.specs.Prelude.{◌≡◌, map, option_map, string_bytes, [], Ok, IfOk, IfErr};
+ghost use Rattle.std.specs.Prelude.{◌≡◌, map, option_map, string_bytes, [], Ok, IfOk, IfErr, IsOk, ◌↔◌};
 ghost use Rattle.enumset.specs.Names.{names_of};
 ghost use Rattle.enumset.specs.JsonNames.{members_in};
 ghost use Rattle.serde_json.specs.View.{view, members_view};
@@ -39,12 +39,14 @@ impl Policy {
     }
 
     /// The decision for a request, such as `ann Read Write`. A line without words is not a request. The fault is an
-    /// unknown name, or that memory ran out.
+    /// unknown name, or that memory ran out where it was copied.
     pub fn answer(&self, alloc: Global, line: &str) -> Result<Option<Decision>, Fault>
         ensures answer { IfOk result
             (IsAnswerTo self.now (request_in (user_of self.now) (words_of line.now))) }
         ensures fault { IfErr result
             (IsFaultOf (request_in (user_of self.now) (words_of line.now))) }
+        ensures answered { IsOk result
+            ↔ IsOk (request_in (user_of self.now) (words_of line.now)) }
     {
         let mut words = line.split_ascii_whitespace();
         let Some(name) = words.next() else {

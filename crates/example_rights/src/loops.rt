@@ -8,7 +8,6 @@ ghost use Rattle.enumset.specs.Sets as set;
 use enumset::{EnumSet, EnumSetType};
 
 /// The granted rights that are not denied.
-#[tactic(auto, using(enumset::specs::Sets::loops))]
 pub fn allowed<T: EnumSetType>(granted: &EnumSet<T>, denied: &EnumSet<T>) -> EnumSet<T>
     ensures { result ≡ set.difference granted.now denied.now }
 {
