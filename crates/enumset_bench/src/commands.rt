@@ -5,9 +5,10 @@ use crate::random::Random;
 use enumset_machine::worked_types::{serve_worked, worked};
 use std::alloc::{AllocError, Global};
 
-/// How many bytes an input has at most, and how many lines its lines are taken from.
+/// How many bytes a random input has at most, without a last line with a fault.
 const LENGTH: usize = 200000;
 
+/// How many lines the lines of an input are taken from.
 const LINES: u32 = 2000;
 
 /// The types that inputs are over.

@@ -7,11 +7,13 @@ use crate::symbols::Symbol;
 use enumset::EnumSet;
 use std::alloc::{AllocError, Global};
 
-/// How many users a policy has, how many grants, and how many requests come in a round.
+/// How many users a policy has.
 const USERS: u32 = 4096;
 
+/// How many grants a policy has.
 const GRANTS: u32 = 24;
 
+/// How many requests come in a round.
 const REQUESTS: u32 = 20000;
 
 /// What a role may do, and in which of the 160 areas.

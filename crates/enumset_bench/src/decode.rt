@@ -145,7 +145,7 @@ fn add_counts(
     Ok(())
 }
 
-/// Mixes in each set once, ascending.
+/// Mixes in each set that has members once, ascending.
 fn add_sorted<T: EnumSetType>(sets: &mut Vec<EnumSet<T>>, digest: &mut Digest) {
     sets.sort_unstable();
     let mut before = EnumSet::new();

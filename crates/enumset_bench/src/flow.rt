@@ -7,9 +7,10 @@ use crate::symbols::Symbol;
 use enumset::{EnumSet, EnumSetType};
 use std::alloc::{AllocError, Global};
 
-/// How many nodes a graph has, if its facts are four words, or 1024 words.
+/// How many nodes a graph has whose facts are four words.
 const NODES: usize = 600;
 
+/// How many nodes a graph has whose facts are 1024 words.
 const FAR_NODES: usize = 24;
 
 /// More passes than a graph needs.

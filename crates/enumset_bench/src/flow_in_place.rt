@@ -38,6 +38,8 @@ impl Flow for InPlace {
         }
     }
 
+    // Inlined into each job, as if there were one. Otherwise the job takes 1.3% more instructions.
+    #[inline(always)]
     fn add_members<T: EnumSetType>(set: &EnumSet<T>, is_from_both: bool, digest: &mut Digest) {
         let mut left = set.copied();
         while let Some(first) = left.pop_first() {

@@ -13,15 +13,19 @@ use enumset::{EnumSet, EnumSetNames};
 use serde_json::Value;
 use std::alloc::{AllocError, Global};
 
-/// How many texts of each form come in a round, and how many users a document has.
+/// How many lists come in a round.
 const LISTS: u32 = 60;
 
+/// How many maps come in a round.
 const MAPS: u32 = 20;
 
+/// How many numbers come in a round.
 const NUMBERS: u32 = 30;
 
+/// How many rows of words come in a round.
 const ROWS: u32 = 20;
 
+/// How many users a document has.
 const USERS: u32 = 40;
 
 /// The digest of all sets, texts and faults.

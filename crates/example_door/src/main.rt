@@ -1,7 +1,7 @@
 //! A door with a magnetic lock.
 //!
 //! `example_door` reads events from standard input, one a line. After each it prints which flags are set, or why the
-//! event is refused. The exit status is 0 if all events are taken, 1 if one is refused, and 2 at a fault.
+//! event is refused. The exit status is 0 if all events are taken, 1 if one is refused, and 2 on a fault.
 #![tactic(auto, using(enumset_sets::specs::Sets::set_laws))]
 
 mod door;

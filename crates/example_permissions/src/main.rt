@@ -1,7 +1,7 @@
 //! Says which requests of users a policy allows.
 //!
 //! `example_permissions POLICY` reads a policy from a file, and requests from standard input, one a line. The exit
-//! status is 0 if all requests are allowed, 1 if one is denied, and 2 at a fault.
+//! status is 0 if all requests are allowed, 1 if one is denied, and 2 on a fault.
 #![tactic(auto, using(enumset::specs::Sets::set_laws))]
 
 mod decision;

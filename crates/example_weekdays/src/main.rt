@@ -1,7 +1,7 @@
 //! Finds the next day of the week on which everybody is free.
 //!
 //! `example_weekdays SCHEDULES --from DAY` prints it, the given day included. Without `--from DAY` it is the next from
-//! Monday on. The exit status is 0 if there is such a day, 1 if there is none, and 2 at a fault.
+//! Monday on. The exit status is 0 if there is such a day, 1 if there is none, and 2 on a fault.
 #![tactic(auto, using(enumset::specs::Sets::set_laws))]
 
 mod fault;
