@@ -38,7 +38,7 @@ impl Flow for InPlace {
         }
     }
 
-    // Inlined into each job, as if there were one. Otherwise the job takes 1.3% more instructions.
+    // Two jobs call this. Where it is not inlined into both, each takes 1.3% more instructions.
     #[inline(always)]
     fn add_members<T: EnumSetType>(set: &EnumSet<T>, is_from_both: bool, digest: &mut Digest) {
         let mut left = set.copied();
