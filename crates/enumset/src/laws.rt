@@ -3,10 +3,10 @@
 //!
 //! This module has the laws of round trips through JSON: the value that was written for a set is read as that set. The
 //! clause `reads` of each writer of texts says that its text is read as this value, so the laws hold for texts too. The
-//! laws of numbers and words without JSON come from `enumset_sets`, the law of the order from `enumset_repr`, and all
-//! others from the modules below: what a reader of another element type reads, elements, complements, mixed sets,
-//! folds, iterators from both ends, and asks. Most laws that are about sets only are in rulesets. Rust's `enumset` has
-//! no laws.
+//! laws of numbers and words without JSON come from `enumset_sets`, the equations of sets and the laws of their order
+//! from `enumset_repr`, and all others from the modules below: what a reader of another element type reads, elements,
+//! complements, mixed sets, folds, iterators from both ends, and asks. Most laws that are about sets only are in
+//! rulesets. Rust's `enumset` has no laws.
 
 ghost use Rattle.std.specs.Prelude.{◌≡◌, Ok, Some, IsTrue};
 ghost use Rattle.enumset_repr.specs.BitSet.{below, is_subset};
@@ -36,7 +36,7 @@ pub use ends::both_ends;
 pub use enumset_array::End;
 use enumset_mixed::MixedEnumSet;
 use enumset_repr::EnumSetTypeRepr;
-pub use enumset_repr::laws::order;
+pub use enumset_repr::laws::{model, order};
 pub use enumset_sets::laws::{
     all_words_and_back, cut_number_and_back, cut_words_and_back, members_are_valid,
     number_and_back, words_and_back,

@@ -1,6 +1,7 @@
 -- Laws of the definitions, each proved. Nothing here has to be believed: contracts cite only the definitions. The laws
 -- are in specs/ so that representations, and the crates above, can cite them.
 --     Members      what `contains` returns for each set, subsets, and that sets with the same members are equal
+--     Model      the equations that determine the model
 --     MemberRules      rules for a search: facts of sets, decided by their members
 --     Algebra      the algebra of sets, for users' proofs: order, grouping, De Morgan, inserting and removing
 --     Sets      one set inside and outside another: parts, complements, subsets by equations
@@ -20,6 +21,7 @@
 --     Representations      the laws of a representation that states its parts as sets and lists, and counts no asks
 --     Integers      an integer as a representation, and numbers with bits masked out
 pub mod Members
+pub mod Model
 pub mod MemberRules
 pub mod Algebra
 pub mod Sets

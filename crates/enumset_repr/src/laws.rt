@@ -1,12 +1,46 @@
 //! Laws that a proof learns from a call. They have no counterpart in Rust's `enumset`.
 
-ghost use Rattle.std.specs.Prelude.{◌≡◌, ◌≢◌, ◌↔◌, IsTrue};
+ghost use Rattle.std.specs.Prelude.{◌≡◌, ◌≢◌, ◌↔◌, ◌<◌, ◌==◌, ◌&&◌, ◌||◌, ℕ, Bool, List, IsTrue, false, length, nat_lt, not, slice_index};
 ghost use Rattle.std.specs.Cmp.{IsTotalOrder};
 ghost use Rattle.std.specs.Ordering.{nat_cmp};
 ghost use Rattle.std.specs.declared.cmp.Ordering.TheVariants.{Less, Equal};
-ghost use Rattle.enumset_repr.specs.BitSet.{BitSet, is_subset, difference};
+ghost use Rattle.enumset_repr.specs.BitSet as set;
+ghost use Rattle.enumset_repr.specs.BitSet.{BitSet, is_in, contains, ascending, is_subset, difference};
 ghost use Rattle.enumset_repr.specs.Number.{number};
 ghost use Rattle.enumset_repr.specs.Order.{compare};
+
+/// Tells the proof the equations of sets: which numbers are in each set, that sets with the same members are equal, and
+/// that a set is given by the list of its members, which ascends and whose length is the number of members.
+///
+/// The equations determine each operation, so a reader who believes them need not read how sets are defined. It does
+/// nothing at run time.
+#[tactic(auto, using(crate::specs::Laws::Model::equations))]
+pub fn model()
+    ensures empty { (q : ℕ) → contains set.empty q ≡ false }
+    ensures insert { (s : BitSet) (b q : ℕ)
+        → contains (set.insert s b) q ≡ ((q == b) || contains s q) }
+    ensures remove { (s : BitSet) (b q : ℕ)
+        → contains (set.remove s b) q ≡ (not (q == b) && contains s q) }
+    ensures retain { (s : BitSet) (p : ℕ → Bool) (q : ℕ)
+        → contains (set.retain s p) q ≡ (contains s q && p q) }
+    ensures from_list { (bs : List ℕ) (q : ℕ) → contains (set.from_list bs) q ≡ is_in q bs }
+    ensures union { (s t : BitSet) (q : ℕ)
+        → contains (set.union s t) q ≡ (contains s q || contains t q) }
+    ensures intersection { (s t : BitSet) (q : ℕ)
+        → contains (set.intersection s t) q ≡ (contains s q && contains t q) }
+    ensures difference { (s t : BitSet) (q : ℕ)
+        → contains (set.difference s t) q ≡ (contains s q && not (contains t q)) }
+    ensures symmetric_difference { (s t : BitSet) (q : ℕ)
+        → contains (set.symmetric_difference s t) q
+        ≡ ((contains s q && not (contains t q)) || (contains t q && not (contains s q))) }
+    ensures below { (n q : ℕ) → contains (set.below n) q ≡ nat_lt q n }
+    ensures low { (s : BitSet) (n q : ℕ) → contains (set.low s n) q ≡ (contains s q && nat_lt q n) }
+    ensures same { (s t : BitSet) → ((q : ℕ) → contains s q ≡ contains t q) → s ≡ t }
+    ensures listed { (s : BitSet) → set.from_list (ascending s) ≡ s }
+    ensures ascends { (s : BitSet) (i j : ℕ) → i < j → j < length (ascending s)
+        → slice_index (ascending s) i < slice_index (ascending s) j }
+    ensures len { (s : BitSet) → set.len s ≡ length (ascending s) }
+{}
 
 /// Tells the proof the laws of the order of sets. Of two sets that differ, the greater is the one that has the greatest
 /// bit that is in exactly one of them.

@@ -11,6 +11,7 @@ fn of_sets_and_elements(_rt: HostRuntime) {
     let letters = EnumSet::<NamedLetters>::all();
     laws::complements();
     laws::both_ends();
+    laws::model();
     laws::order();
     laws::fold_of_sets();
     laws::fold_of_elements::<NamedLetters>();

@@ -1,0 +1,32 @@
+-- The model of sets by its equations. They determine each operation, so whoever believes the checker need not read how
+-- `BitSet` defines it, nor the maps of std that it stands on.
+--     from_list_ascending      a set is the set of the numbers in its list
+--     ascends_at      the list ascends: an earlier number is less than a later one
+-- The ruleset `equations` has these, what `contains` returns for each set, that sets with the same members are equal, and
+-- how many members a set has.
+use Rattle.std.proofs.Common.{◌≡◌, ◌<◌, ℕ, suc, zero, true, List, [], ◌∷◌, length, sym, ◌∙◌, arith, slice_index}
+use Rattle.std.proofs.lemmas.Bool.{or_right}
+use Rattle.std.proofs.lemmas.Bool.Decides.{nat_tests}
+use Rattle.enumset_repr.specs.BitSet.{BitSet, is_in, ascending, from_list}
+use Rattle.enumset_repr.specs.Laws.Ascending.{AscendsFrom, ascending_ascends, is_in_from, len_ascending}
+use Rattle.enumset_repr.specs.Laws.Members.{same_set, contains_empty, contains_insert, contains_remove, contains_retain, contains_from_list, contains_union, contains_intersection, contains_difference, contains_symmetric_difference, contains_below, contains_low, contains_ascending}
+
+pub from_list_ascending : (s : BitSet) → from_list (ascending s) ≡ s
+from_list_ascending s = same_set _ s (λ q. contains_from_list (ascending s) q ∙ sym (contains_ascending s q))
+
+-- the number at a place of a list is in the list
+is_in_at : (xs : List ℕ) (i : ℕ) → i < length xs → is_in (slice_index xs i) xs ≡ true
+is_in_at [] i within = absurd (omega (arith, within))
+is_in_at (x ∷ xs) zero within = grind (arith, nat_tests)
+is_in_at (x ∷ xs) (suc i) within = or_right _ _ (is_in_at xs i (omega (arith, within)))
+
+ascends_from_at : (k : ℕ) (xs : List ℕ) → AscendsFrom k xs → (i j : ℕ) → i < j → j < length xs → slice_index xs i < slice_index xs j
+ascends_from_at k [] ascends i j before within = absurd (omega (arith, within))
+ascends_from_at k (x ∷ xs) ascends i zero before within = absurd (omega (arith, before))
+ascends_from_at k (x ∷ xs) ascends zero (suc j) before within = is_in_from (suc x) (slice_index xs j) xs ascends.1 (is_in_at xs j (omega (arith, within)))
+ascends_from_at k (x ∷ xs) ascends (suc i) (suc j) before within = ascends_from_at (suc x) xs ascends.1 i j (omega (arith, before)) (omega (arith, within))
+
+pub ascends_at : (s : BitSet) (i j : ℕ) → i < j → j < length (ascending s) → slice_index (ascending s) i < slice_index (ascending s) j
+ascends_at s i j before within = ascends_from_at 0 (ascending s) (ascending_ascends s) i j before within
+
+pub ruleset equations = (contains_empty, contains_insert, contains_remove, contains_retain, contains_from_list, contains_union, contains_intersection, contains_difference, contains_symmetric_difference, contains_below, contains_low, same_set, from_list_ascending, ascends_at, len_ascending)
