@@ -313,7 +313,7 @@ def declaring_modules(module):
     _, crate, _, *names = module.split(".")
     path = TOP / "crates" / crate / "specs" / ("/".join(names) + ".antt")
     found = {}
-    for other, group in re.findall(r"(?m)^pub use (Rattle[\w.]+)\.\{([^}]*)\}", path.read_text(encoding="utf-8")):
+    for other, group in re.findall(r"(?m)^(?:unfoldable )?pub use (Rattle[\w.]+)\.\{([^}]*)\}", path.read_text(encoding="utf-8")):
         further = declaring_modules(other) if other.split(".")[1] in LIBRARIES else {}
         found |= {name: further.get(name, other) for name in group.split(", ")}
     return found
