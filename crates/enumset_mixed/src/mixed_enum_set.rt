@@ -25,8 +25,9 @@ use std::marker::{Model, PhantomData};
 ///
 /// It mirrors `MixedEnumSet` of Rust's `enumset`, and its calls keep their names, except for
 /// [`eq_enumset`](MixedEnumSet::eq_enumset) and [`eq_element`](MixedEnumSet::eq_element).
-/// [`copied`](MixedEnumSet::copied) and the last block of calls have no counterpart there. A bit is valid if a variant
-/// has it, and unknown otherwise. The parameter `R` is always the representation of `T`: write `MixedEnumSet<T>`.
+/// Rust's crate has neither [`copied`](MixedEnumSet::copied) nor the calls from
+/// [`is_disjoint_from`](MixedEnumSet::is_disjoint_from) to [`last`](MixedEnumSet::last). A bit is valid if a variant has
+/// it, and unknown otherwise. The parameter `R` is always the representation of `T`: write `MixedEnumSet<T>`.
 pub struct MixedEnumSet<T: EnumSetTypeWithRepr, R: EnumSetTypeRepr = <T as EnumSetType>::Repr> {
     pub(crate) repr: R,
     of: PhantomData<T>,

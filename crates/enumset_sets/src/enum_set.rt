@@ -24,8 +24,9 @@ use std::marker::{Model, PhantomData};
 /// Contracts see it as the set of its elements' bits, which are its members. A bit is valid if a variant has it.
 ///
 /// It mirrors `EnumSet` of Rust's `enumset`, and its calls keep their names, except for
-/// [`eq_element`](EnumSet::eq_element). [`copied`](EnumSet::copied), and the calls of the last block, have no
-/// counterpart there. The parameter `R` is always the representation of `T`: write `EnumSet<T>`.
+/// [`eq_element`](EnumSet::eq_element). Rust's crate has neither [`copied`](EnumSet::copied) nor the calls from
+/// [`range`](EnumSet::range) to [`retain`](EnumSet::retain). The parameter `R` is always the representation of `T`: write
+/// `EnumSet<T>`.
 ///
 /// # Numbers
 ///
