@@ -4,6 +4,7 @@
 --     MemberRules      rules for a search: facts of sets, decided by their members
 --     Algebra      the algebra of sets, for users' proofs: order, grouping, De Morgan, inserting and removing
 --     Sets      one set inside and outside another: parts, complements, subsets by equations
+--     Lattice      sets under inclusion: antisymmetry, bounds, monotony
 --     Ascending      the list of the members, and `len`
 --     Counting      how many members sets have
 --     CountRules      rules for a search: how many members
@@ -24,6 +25,7 @@ pub mod Members
 pub mod MemberRules
 pub mod Algebra
 pub mod Sets
+pub mod Lattice
 pub mod Ascending
 pub mod Counting
 pub mod CountRules
