@@ -9,6 +9,7 @@
 --     Counting      how many members sets have
 --     CountRules      rules for a search: how many members
 --     Induction      induction over sets: by insertion, by the least or the greatest member, by proper subsets
+--     Sums      folds and sums over a set, and the number of a set as a sum
 --     Ends      the least and the greatest member, and steps from an end of a list
 --     Firsts      the first and the last member, and the list of a set that is written out
 --     EndRules      rules for a search: the least and the greatest member, the list of the members, what `find` finds
@@ -30,6 +31,7 @@ pub mod Ascending
 pub mod Counting
 pub mod CountRules
 pub mod Induction
+pub mod Sums
 pub mod Ends
 pub mod Firsts
 pub mod EndRules

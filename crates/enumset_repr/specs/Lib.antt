@@ -1,4 +1,5 @@
 pub mod BitSet
+pub mod Sum
 pub mod Number
 pub mod Words
 pub mod Lawful
