@@ -10,6 +10,7 @@
 --     CountRules      rules for a search: how many members
 --     Induction      induction over sets: by insertion, by the least or the greatest member, by proper subsets
 --     Sums      folds and sums over a set, and the number of a set as a sum
+--     Images      the image of a set under a function
 --     Ends      the least and the greatest member, and steps from an end of a list
 --     Firsts      the first and the last member, and the list of a set that is written out
 --     EndRules      rules for a search: the least and the greatest member, the list of the members, what `find` finds
@@ -32,6 +33,7 @@ pub mod Counting
 pub mod CountRules
 pub mod Induction
 pub mod Sums
+pub mod Images
 pub mod Ends
 pub mod Firsts
 pub mod EndRules

@@ -1,5 +1,6 @@
 pub mod BitSet
 pub mod Sum
+pub mod Image
 pub mod Number
 pub mod Words
 pub mod Lawful
