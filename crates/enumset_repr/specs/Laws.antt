@@ -11,6 +11,7 @@
 --     Induction      induction over sets: by insertion, by the least or the greatest member, by proper subsets
 --     Sums      folds and sums over a set, and the number of a set as a sum
 --     Images      the image of a set under a function
+--     Pigeonhole      members that must be there, by the sizes of sets
 --     Ends      the least and the greatest member, and steps from an end of a list
 --     Firsts      the first and the last member, and the list of a set that is written out
 --     EndRules      rules for a search: the least and the greatest member, the list of the members, what `find` finds
@@ -34,6 +35,7 @@ pub mod CountRules
 pub mod Induction
 pub mod Sums
 pub mod Images
+pub mod Pigeonhole
 pub mod Ends
 pub mod Firsts
 pub mod EndRules
