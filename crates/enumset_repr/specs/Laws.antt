@@ -5,6 +5,7 @@
 --     Algebra      the algebra of sets, for users' proofs: order, grouping, De Morgan, inserting and removing
 --     Sets      one set inside and outside another: parts, complements, subsets by equations
 --     Lattice      sets under inclusion: antisymmetry, bounds, monotony
+--     Retain      the members that pass a test
 --     Ascending      the list of the members, and `len`
 --     Counting      how many members sets have
 --     CountRules      rules for a search: how many members
@@ -29,6 +30,7 @@ pub mod MemberRules
 pub mod Algebra
 pub mod Sets
 pub mod Lattice
+pub mod Retain
 pub mod Ascending
 pub mod Counting
 pub mod CountRules
