@@ -16,6 +16,7 @@
 --     Ends      the least and the greatest member, and steps from an end of a list
 --     Firsts      the first and the last member, and the list of a set that is written out
 --     EndRules      rules for a search: the least and the greatest member, the list of the members, what `find` finds
+--     EndsOfUnions      the least and the greatest member of unions and subsets, and the list of a union
 --     Iteration      chains and loops over a set's iterator, and the places of members in their order
 --     Order      the order of two sets, and the greater and the lesser of them
 --     Numbers      sets and numbers, at every width
@@ -41,6 +42,7 @@ pub mod Pigeonhole
 pub mod Ends
 pub mod Firsts
 pub mod EndRules
+pub mod EndsOfUnions
 pub mod Iteration
 pub mod Order
 pub mod Numbers
