@@ -9,3 +9,4 @@ pub mod Asks
 pub mod Order
 pub mod Representations
 pub mod Laws
+pub mod Rules

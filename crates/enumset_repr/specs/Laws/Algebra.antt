@@ -10,8 +10,8 @@
 use Rattle.std.proofs.Common.{◌≡◌, ◌≢◌, ℕ, true, false, cond, List, [], ◌∷◌, refl, sym, ◌∙◌, arith, ne_eqb}
 use Rattle.std.proofs.lemmas.Bool.Decides.{nat_tests}
 use Rattle.enumset_repr.specs.BitSet.{BitSet, contains, ascending, empty, insert, only, remove, from_list, insert_each, union, intersection, difference, symmetric_difference, is_subset, is_disjoint}
-use Rattle.enumset_repr.specs.Laws.Members.{members, subsets, same_set, contains_ascending, contains_from_list, contains_insert_each, is_disjoint_iff}
-use Rattle.enumset_repr.specs.Laws.MemberRules.{decided, union_only, difference_only}
+use Rattle.enumset_repr.specs.Laws.Members.{members, subsets, same_set, contains_ascending, contains_from_list, contains_insert_each, union_only, difference_only}
+use Rattle.enumset_repr.specs.Rules.Members.{decided}
 
 -- ---- union
 
@@ -258,15 +258,6 @@ pub difference_apart : (s t : BitSet) → is_disjoint s t ≡ true → differenc
 difference_apart s t apart = grind (arith, decided)
 
 pub ruleset on_subsets = (is_disjoint_empty, is_disjoint_difference, union_left, union_right, intersection_left, intersection_right, difference_left, insert_grows, remove_shrinks, union_within, intersection_within, difference_within, intersection_apart, difference_apart)
-
--- ---- where a search meets a difference or an intersection
-
--- the first part is always true: it shows the search where to use the law
-pub difference_tells : (s t : BitSet) → (difference s t ≡ difference s t) × (difference s t ≡ empty → is_subset s t ≡ true)
-difference_tells s t = (refl, difference_none s t)
-
-pub intersection_tells : (s t : BitSet) → (intersection s t ≡ intersection s t) × (intersection s t ≡ empty → is_disjoint s t ≡ true)
-intersection_tells s t = (refl, (is_disjoint_iff s t).1)
 
 -- ---- a set from a list of its members
 

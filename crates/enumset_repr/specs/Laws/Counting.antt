@@ -29,7 +29,7 @@ use Rattle.enumset_repr.specs.BitSet.{BitSet, is_in, contains, ascending, len, i
 use Rattle.std.proofs.lemmas.List.Filters.{length-filter_both}
 use Rattle.enumset_repr.specs.Laws.Members.{contains_empty, contains_retain, contains_union, contains_ascending, contains_intersection, contains_difference, contains_below, is_subset_iff, is_disjoint_iff}
 use Rattle.enumset_repr.specs.Laws.Algebra.{intersection_comm, intersection_assoc, intersection_within, intersection_apart, intersection_over_union, union_difference, union_within}
-use Rattle.enumset_repr.specs.Laws.MemberRules.{decided}
+use Rattle.enumset_repr.specs.Rules.Members.{decided}
 use Rattle.enumset_repr.specs.Laws.Ascending.{AscendsFrom, ascends_lower, ascending_ascends, ascending_is, len_ascending, len_below, len_empty, len_insert, len_remove, empty_of_len, is_empty_iff}
 
 module _ (p : ℕ → Bool) where

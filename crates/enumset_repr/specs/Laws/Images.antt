@@ -14,8 +14,8 @@ use Rattle.enumset_repr.specs.BitSet.{BitSet, is_in, contains, ascending, len, e
 use Rattle.enumset_repr.specs.Laws.Algebra.{contains_inserted, insert_grows}
 use Rattle.enumset_repr.specs.Laws.Ascending.{len_insert}
 use Rattle.enumset_repr.specs.Laws.Counting.{len_inserted}
-use Rattle.enumset_repr.specs.Laws.MemberRules.{decided, union_only}
-use Rattle.enumset_repr.specs.Laws.Members.{members, same_set, contains_empty, contains_insert, contains_ascending, contains_from_list, contains_is_subset, is_subset_contains}
+use Rattle.enumset_repr.specs.Rules.Members.{decided}
+use Rattle.enumset_repr.specs.Laws.Members.{union_only, members, same_set, contains_empty, contains_insert, contains_ascending, contains_from_list, contains_is_subset, is_subset_contains}
 use Rattle.enumset_repr.specs.Laws.Induction.{set_induction}
 use Rattle.enumset_repr.specs.Image.{image}
 

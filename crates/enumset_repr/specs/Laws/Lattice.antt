@@ -11,7 +11,7 @@
 use Rattle.std.proofs.Common.{◌≡◌, ◌↔◌, ℕ, true, ◌&&◌, subst, arith}
 use Rattle.enumset_repr.specs.BitSet.{BitSet, contains, insert, remove, union, intersection, difference, is_subset, is_disjoint}
 use Rattle.enumset_repr.specs.Laws.Algebra.{union_within, union_left, intersection_within, intersection_right, difference_apart, is_disjoint_difference}
-use Rattle.enumset_repr.specs.Laws.MemberRules.{decided}
+use Rattle.enumset_repr.specs.Rules.Members.{decided}
 use Rattle.enumset_repr.specs.Laws.Members.{is_subset_contains, is_disjoint_contains, contains_is_disjoint}
 
 -- ---- subsets and disjoint sets

@@ -16,7 +16,7 @@ use Rattle.enumset_repr.specs.Laws.Counting.{len_union, len_parts, len_inserted,
 use Rattle.enumset_repr.specs.Laws.Ends.{least_facts, ascending_no_least}
 use Rattle.enumset_repr.specs.Laws.Images.{contains_image, image_insert, is_subset_image}
 use Rattle.enumset_repr.specs.Laws.Induction.{set_induction}
-use Rattle.enumset_repr.specs.Laws.MemberRules.{decided}
+use Rattle.enumset_repr.specs.Rules.Members.{decided}
 use Rattle.enumset_repr.specs.Laws.Members.{members, contains_below, is_subset_contains}
 
 -- a set that is not empty has a member

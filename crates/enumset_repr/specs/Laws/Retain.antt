@@ -13,7 +13,7 @@ use Rattle.std.proofs.lemmas.Bool.Decides.{nat_tests}
 use Rattle.enumset_repr.specs.BitSet.{BitSet, contains, len, empty, insert, retain, union, intersection, difference, is_subset, is_disjoint}
 use Rattle.enumset_repr.specs.Laws.Ascending.{len_empty}
 use Rattle.enumset_repr.specs.Laws.Counting.{len_union}
-use Rattle.enumset_repr.specs.Laws.MemberRules.{decided}
+use Rattle.enumset_repr.specs.Rules.Members.{decided}
 use Rattle.enumset_repr.specs.Laws.Members.{members, same_set}
 
 -- two tests, one after the other, are one test

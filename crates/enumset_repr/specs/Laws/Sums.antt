@@ -21,7 +21,7 @@ use Rattle.enumset_repr.specs.Laws.Algebra.{contains_removed, insert_remove, uni
 use Rattle.enumset_repr.specs.Laws.Ascending.{ascending_empty, len_empty}
 use Rattle.enumset_repr.specs.Laws.Counting.{len_inserted}
 use Rattle.enumset_repr.specs.Laws.Firsts.{insert_sorted, ascending_insert}
-use Rattle.enumset_repr.specs.Laws.MemberRules.{decided}
+use Rattle.enumset_repr.specs.Rules.Members.{decided}
 use Rattle.enumset_repr.specs.Laws.Members.{same_set, contains_empty, contains_from_list, contains_ascending}
 use Rattle.enumset_repr.specs.Laws.Sets.{difference_parts}
 use Rattle.enumset_repr.specs.Laws.Induction.{set_induction}

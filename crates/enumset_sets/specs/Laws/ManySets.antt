@@ -1,8 +1,6 @@
 -- Folds of a list of sets: only which items the list has matters, neither their order nor repeats.
 --     contains_intersection_all, contains_union_all      which bits are in all the sets of a list;  in any of them
 --     contains_fold_intersection, contains_fold_union      which bits std's `fold` over a list of sets leaves
---     .._once      which bits a fold has, wherever the fold and the number are in sight:  `MemberRules` of
---         `enumset_repr` says how
 --     intersection_all_more      an intersection with one more set at the end of the list
 --     union_all_none, union_all_step      the union of a set with all sets of a list, one after another
 --     any_same      whether a test passes for any item, for lists with the same items
@@ -10,8 +8,7 @@
 --     union_all_member, union_all_within, union_all_mono      the union of the sets that a function makes of the members
 --         of a set has each of these sets, is within each set that has them all, and is greater for a greater set
 --     .._is_subset, .._is_disjoint      a union of many is a subset of a set, or disjoint from it, exactly if each is
--- The ruleset `folds` has what `contains` returns, one more set, and one set after another;  `folds_once` has the same,
--- for use with `decided`.
+-- The ruleset `folds` has what `contains` returns, one more set, and one set after another.
 use Rattle.std.proofs.Common.{◌≡◌, ℕ, Bool, true, false, true≢false, not, ◌&&◌, ◌||◌, List, [], ◌∷◌, ◌++◌, map, fold, refl, sym, ap, subst, ◌∙◌, arith, Contains, ◌↔◌, ◌==◌, eq-eqb, eqb-true}
 use Rattle.std.proofs.lemmas.Bool.{or_left, or_right}
 use Rattle.std.proofs.lemmas.Bool.Decides.{nat_tests, same_from_decides}
@@ -21,7 +18,7 @@ use Rattle.enumset_repr.specs.BitSet.{BitSet, is_in, contains, ascending, union,
 use Rattle.enumset_repr.specs.Laws.Algebra.{union_empty, union_assoc, union_left, union_right, is_subset_trans}
 use Rattle.enumset_repr.specs.Laws.Iteration.{all_not_any}
 use Rattle.enumset_repr.specs.Laws.Lattice.{is_disjoint_union}
-use Rattle.enumset_repr.specs.Laws.MemberRules.{at, decided}
+use Rattle.enumset_repr.specs.Rules.Members.{at, decided}
 use Rattle.enumset_repr.specs.Laws.Members.{members, same_set, contains_from_list, contains_empty, contains_union, contains_ascending, is_subset_contains, empty_is_subset, union_is_subset}
 use Rattle.enumset_repr.specs.Laws.Sets.{is_subset_union}
 use Rattle.enumset_sets.specs.Folds.{union_all, intersection_all}
@@ -85,16 +82,7 @@ intersection_all_same s ts us same = same_set _ _ (λ q.
     ∙ ap (λ b. contains s q && b) (all_not_any (λ t. contains t q) ts ∙ ap not (any_same (λ t. not (contains t q)) ts us same) ∙ sym (all_not_any (λ t. contains t q) us))
     ∙ sym (contains_intersection_all s us q))
 
--- ---- for use with `decided`
-
-pub union_all_once : (ss : List BitSet) (q : ℕ) (w : Bool) → (union_all ss ≡ union_all ss) × (at q w ≡ at q w) × (contains (union_all ss) q ≡ list_any (λ s. contains s q) ss)
-union_all_once ss q w = (refl, refl, contains_union_all ss q)
-
-pub fold_union_once : (s : BitSet) (ts : List BitSet) (q : ℕ) (w : Bool) → (fold union s ts ≡ fold union s ts) × (at q w ≡ at q w) × (contains (fold union s ts) q ≡ (contains s q || list_any (λ t. contains t q) ts))
-fold_union_once s ts q w = (refl, refl, contains_fold_union s ts q)
-
-pub fold_intersection_once : (s : BitSet) (ts : List BitSet) (q : ℕ) (w : Bool) → (fold intersection s ts ≡ fold intersection s ts) × (at q w ≡ at q w) × (contains (fold intersection s ts) q ≡ (contains s q && list_all (λ t. contains t q) ts))
-fold_intersection_once s ts q w = (refl, refl, contains_fold_intersection s ts q)
+-- ---- subsets and disjoint sets
 
 -- a union of many is a subset of a set exactly if each is
 pub fold_is_subset : (s : BitSet) (ts : List BitSet) (u : BitSet) → is_subset (fold union s ts) u ≡ (is_subset s u && list_all (λ t. is_subset t u) ts)
@@ -142,7 +130,5 @@ union_all_within f s u each = rows_within f u (ascending s) (λ b one. each b (c
 -- a greater set has a greater union
 pub union_all_mono : (f : ℕ → BitSet) (s t : BitSet) → is_subset s t ≡ true → is_subset (union_all (map f (ascending s))) (union_all (map f (ascending t))) ≡ true
 union_all_mono f s t within = union_all_within f s _ (λ b one. union_all_member f t b (is_subset_contains s t within b one))
-
-pub ruleset folds_once = (union_all_once, fold_union_once, fold_intersection_once, fold_is_subset, union_all_is_subset, fold_is_disjoint, union_all_is_disjoint, intersection_all_more, union_all_none, union_all_step)
 
 pub ruleset folds = (contains_intersection_all, contains_union_all, contains_fold_intersection, contains_fold_union, intersection_all_more, union_all_none, union_all_step)

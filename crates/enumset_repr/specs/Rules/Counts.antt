@@ -1,4 +1,4 @@
--- Rules for a search: how many members sets have. They go with `decided` of `MemberRules`, whose first lines say why a
+-- Rules for a search: how many members sets have. They go with `decided` of `Members`, whose first lines say why a
 -- rule has a dummy variable.
 --     counts      how many members a union, an intersection, a difference and the like have
 --     counts_of_parts      what subsets and disjoint sets say about numbers of members;  a subset with as many members
@@ -12,8 +12,8 @@ use Rattle.enumset_repr.specs.Laws.Ascending.{len_empty, len_insert, len_below, 
 use Rattle.enumset_repr.specs.Laws.Counting.{len_union_same, len_union, len_parts, len_zero_iff, len_only, subset_equality}
 use Rattle.enumset_repr.specs.Laws.Algebra.{intersection_comm}
 use Rattle.enumset_repr.specs.Laws.Sets.{len_symmetric_difference}
-use Rattle.enumset_repr.specs.Laws.MemberRules.{decided}
-use Rattle.enumset_repr.specs.Laws.EndRules.{least_in}
+use Rattle.enumset_repr.specs.Rules.Members.{decided}
+use Rattle.enumset_repr.specs.Rules.Ends.{least_in}
 
 -- ---- sets whose members are counted
 
