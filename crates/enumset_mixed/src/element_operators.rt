@@ -19,7 +19,7 @@ impl<T: EnumSetTypeWithRepr> BitAnd<T> for MixedEnumSet<T> {
 }
 
 /// `a | b`: a with the element b, as by [`insert`](MixedEnumSet::insert).
-#[tactic(auto, using(enumset_repr::specs::Laws::MemberRules::union_only))]
+#[tactic(auto, using(enumset_repr::specs::Laws::Members::union_only))]
 impl<T: EnumSetTypeWithRepr> BitOr<T> for MixedEnumSet<T> {
     type Output = MixedEnumSet<T>;
 
@@ -45,7 +45,7 @@ impl<T: EnumSetTypeWithRepr> BitXor<T> for MixedEnumSet<T> {
 }
 
 /// `a - b`: a without the element b, as by [`remove`](MixedEnumSet::remove).
-#[tactic(auto, using(enumset_repr::specs::Laws::MemberRules::difference_only))]
+#[tactic(auto, using(enumset_repr::specs::Laws::Members::difference_only))]
 impl<T: EnumSetTypeWithRepr> Sub<T> for MixedEnumSet<T> {
     type Output = MixedEnumSet<T>;
 
@@ -68,7 +68,7 @@ impl<T: EnumSetTypeWithRepr> BitAndAssign<T> for MixedEnumSet<T> {
 }
 
 /// `a |= b`: a becomes `a | b`.
-#[tactic(auto, using(enumset_repr::specs::Laws::MemberRules::union_only))]
+#[tactic(auto, using(enumset_repr::specs::Laws::Members::union_only))]
 impl<T: EnumSetTypeWithRepr> BitOrAssign<T> for MixedEnumSet<T> {
     ghost bitor_assign_gives = { λ a b r. r ≡ set.union a (set.only (T.elements.bit b)) };
 
@@ -88,7 +88,7 @@ impl<T: EnumSetTypeWithRepr> BitXorAssign<T> for MixedEnumSet<T> {
 }
 
 /// `a -= b`: a becomes `a - b`.
-#[tactic(auto, using(enumset_repr::specs::Laws::MemberRules::difference_only))]
+#[tactic(auto, using(enumset_repr::specs::Laws::Members::difference_only))]
 impl<T: EnumSetTypeWithRepr> SubAssign<T> for MixedEnumSet<T> {
     ghost sub_assign_gives = { λ a b r. r ≡ set.difference a (set.only (T.elements.bit b)) };
 

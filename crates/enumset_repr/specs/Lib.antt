@@ -1,4 +1,6 @@
 pub mod BitSet
+pub mod Sum
+pub mod Image
 pub mod Number
 pub mod Words
 pub mod Lawful
@@ -7,3 +9,4 @@ pub mod Asks
 pub mod Order
 pub mod Representations
 pub mod Laws
+pub mod Rules

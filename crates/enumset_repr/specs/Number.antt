@@ -5,10 +5,11 @@
 --     lists_bits      whether a list names each bit of a number once, and no other number
 use Rattle.std.specs.Prelude.{ℕ, ◌^◌, ◌==◌, Bool, true, not, ◌&&◌, List, [], ◌∷◌, sum_by}
 use Rattle.std.specs.Int.{bit_at}
-use Rattle.enumset_repr.specs.BitSet.{BitSet, is_in, below, retain, ascending}
+use Rattle.enumset_repr.specs.BitSet.{BitSet, is_in, below, retain}
+use Rattle.enumset_repr.specs.Sum.{sum_over}
 
 unfoldable pub number : BitSet → ℕ
-number s = sum_by (λ b. 2 ^ b) (ascending s)
+number s = sum_over (λ b. 2 ^ b) s
 
 -- the places of the ones of n: each place b is below n, since b is below 2 ^ b and 2 ^ b is at most n
 unfoldable pub bits : ℕ → BitSet

@@ -1,11 +1,10 @@
 -- Laws of the definitions, each proved. They are in specs/ so that the laws of an element type and users' proofs can
 -- cite them.
 --     Conversions      sets cut at a width, and sets taken through words
---     Counts      how many valid bits there are, and how many are left
+--     Counts      how many valid bits are left
 --     Elements      the laws of an enum without fields, from one test of its bits and constants
 --     Folds      folds of a list with one more item at its end
 --     ManySets      unions and intersections of many sets, by which sets there are
---     SetLaws      the ruleset for the root of a user's crate
 --     Iterators      what iterators that bound their asks yield
 --     Texts      the text of a set as it is written
 pub mod Conversions
@@ -13,6 +12,5 @@ pub mod Counts
 pub mod Elements
 pub mod Folds
 pub mod ManySets
-pub mod SetLaws
 pub mod Iterators
 pub mod Texts

@@ -2,6 +2,7 @@ pub mod Elements
 pub mod Folds
 pub mod SetInvariant
 pub mod Laws
+pub mod Rules
 pub mod Retain
 pub mod Sets
 pub mod Texts

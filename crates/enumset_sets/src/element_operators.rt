@@ -19,7 +19,7 @@ impl<T: EnumSetType> BitAnd<T> for EnumSet<T> {
 }
 
 /// `a | b`: a with the element b, as by [`insert`](EnumSet::insert).
-#[tactic(auto, using(enumset_repr::specs::Laws::MemberRules::union_only))]
+#[tactic(auto, using(enumset_repr::specs::Laws::Members::union_only))]
 impl<T: EnumSetType> BitOr<T> for EnumSet<T> {
     type Output = EnumSet<T>;
 
@@ -45,7 +45,7 @@ impl<T: EnumSetType> BitXor<T> for EnumSet<T> {
 }
 
 /// `a - b`: a without the element b, as by [`remove`](EnumSet::remove).
-#[tactic(auto, using(enumset_repr::specs::Laws::MemberRules::difference_only))]
+#[tactic(auto, using(enumset_repr::specs::Laws::Members::difference_only))]
 impl<T: EnumSetType> Sub<T> for EnumSet<T> {
     type Output = EnumSet<T>;
 
@@ -68,7 +68,7 @@ impl<T: EnumSetType> BitAndAssign<T> for EnumSet<T> {
 }
 
 /// `a |= b`: a becomes `a | b`.
-#[tactic(auto, using(enumset_repr::specs::Laws::MemberRules::union_only))]
+#[tactic(auto, using(enumset_repr::specs::Laws::Members::union_only))]
 impl<T: EnumSetType> BitOrAssign<T> for EnumSet<T> {
     ghost bitor_assign_gives = { λ a b r. r ≡ set.union a (set.only (T.elements.bit b)) };
 
@@ -88,7 +88,7 @@ impl<T: EnumSetType> BitXorAssign<T> for EnumSet<T> {
 }
 
 /// `a -= b`: a becomes `a - b`.
-#[tactic(auto, using(enumset_repr::specs::Laws::MemberRules::difference_only))]
+#[tactic(auto, using(enumset_repr::specs::Laws::Members::difference_only))]
 impl<T: EnumSetType> SubAssign<T> for EnumSet<T> {
     ghost sub_assign_gives = { λ a b r. r ≡ set.difference a (set.only (T.elements.bit b)) };
 

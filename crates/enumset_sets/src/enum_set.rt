@@ -150,7 +150,7 @@ impl<T: EnumSetType + fmt::Debug> fmt::Debug for EnumSet<T> {
     }
 }
 
-#[tactic(auto, using(enumset_repr::specs::Laws::MemberRules::decided))]
+#[tactic(auto, using(enumset_repr::specs::Rules::Members::decided))]
 impl<T: EnumSetType> EnumSet<T> {
     /// The set that a value represents.
     pub(crate) fn of_repr(repr: T::Repr) -> EnumSet<T>

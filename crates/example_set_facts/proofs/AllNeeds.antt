@@ -7,7 +7,7 @@
 use Rattle.std.proofs.Common.{◌≡◌, ◌<◌, ℕ, Bool, true, false, ◌&&◌, List, [], ◌∷◌, map, refl, sym, ap, ◌∙◌, arith}
 use Rattle.std.specs.List.{list_all}
 use Rattle.enumset.specs.Sets.{BitSet, contains, ascending, is_subset, union, difference, len}
-use Rattle.enumset_repr.specs.Laws.MemberRules.{decided}
+use Rattle.enumset_repr.specs.Rules.Members.{decided}
 use Rattle.enumset_repr.specs.Laws.Counting.{len_proper}
 use Rattle.enumset_repr.specs.Laws.Members.{contains_ascending, list_all_any, list_all_each}
 use Rattle.enumset_sets.specs.Laws.ManySets.{union_all_is_subset}

@@ -7,10 +7,11 @@
 --     from_list_.., insert_each_..      a set built from a list of its members
 -- The ruleset `algebra` has those that a tactic can apply by itself. A crate above cites it by
 -- `#[tactic(auto, using(enumset_repr::specs::Laws::Algebra::algebra))]`.
-use Rattle.std.proofs.Common.{◌≡◌, ℕ, true, false, cond, List, [], ◌∷◌, refl, sym, ◌∙◌, arith}
+use Rattle.std.proofs.Common.{◌≡◌, ◌≢◌, ℕ, true, false, cond, List, [], ◌∷◌, refl, sym, ◌∙◌, arith, ne_eqb}
+use Rattle.std.proofs.lemmas.Bool.Decides.{nat_tests}
 use Rattle.enumset_repr.specs.BitSet.{BitSet, contains, ascending, empty, insert, only, remove, from_list, insert_each, union, intersection, difference, symmetric_difference, is_subset, is_disjoint}
-use Rattle.enumset_repr.specs.Laws.Members.{members, subsets, same_set, contains_ascending, contains_from_list, contains_insert_each, is_disjoint_iff}
-use Rattle.enumset_repr.specs.Laws.MemberRules.{decided, union_only, difference_only}
+use Rattle.enumset_repr.specs.Laws.Members.{members, subsets, same_set, contains_ascending, contains_from_list, contains_insert_each, union_only, difference_only}
+use Rattle.enumset_repr.specs.Rules.Members.{decided}
 
 -- ---- union
 
@@ -31,6 +32,10 @@ empty_union s = grind (arith, decided)
 
 pub union_intersection : (s t : BitSet) → union s (intersection s t) ≡ s
 union_intersection s t = grind (arith, decided)
+
+-- a union over an intersection;  `intersection_over_union` is the other way round
+pub union_over_intersection : (s t u : BitSet) → union s (intersection t u) ≡ intersection (union s t) (union s u)
+union_over_intersection s t u = grind (arith, decided)
 
 pub ruleset on_unions = (union_comm, union_self, union_empty, empty_union, union_intersection)
 
@@ -94,6 +99,10 @@ pub ruleset on_differences = (difference_self, difference_empty, empty_differenc
 pub symmetric_difference_comm : (s t : BitSet) → symmetric_difference s t ≡ symmetric_difference t s
 symmetric_difference_comm s t = grind (arith, decided)
 
+-- three sets, grouped the other way
+pub symmetric_difference_assoc : (s t u : BitSet) → symmetric_difference (symmetric_difference s t) u ≡ symmetric_difference s (symmetric_difference t u)
+symmetric_difference_assoc s t u = same_set _ _ (λ q. grind (arith, members))
+
 pub symmetric_difference_self : (s : BitSet) → symmetric_difference s s ≡ empty
 symmetric_difference_self s = grind (arith, decided)
 
@@ -102,6 +111,10 @@ symmetric_difference_empty s = grind (arith, decided)
 
 pub symmetric_difference_twice : (s t : BitSet) → symmetric_difference (symmetric_difference s t) t ≡ s
 symmetric_difference_twice s t = grind (arith, decided)
+
+-- an intersection over a symmetric difference
+pub intersection_over_symmetric_difference : (s t u : BitSet) → intersection s (symmetric_difference t u) ≡ symmetric_difference (intersection s t) (intersection s u)
+intersection_over_symmetric_difference s t u = same_set _ _ (λ q. grind (arith, members))
 
 pub ruleset on_symmetric_differences = (symmetric_difference_comm, symmetric_difference_self, symmetric_difference_empty, symmetric_difference_twice)
 
@@ -118,6 +131,22 @@ insert_present s b one = grind (arith, decided)
 
 pub remove_twice : (s : BitSet) (b : ℕ) → remove (remove s b) b ≡ remove s b
 remove_twice s b = grind (arith, decided)
+
+-- two numbers removed in either order
+pub remove_comm : (s : BitSet) (b c : ℕ) → remove (remove s b) c ≡ remove (remove s c) b
+remove_comm s b c = grind (arith, decided)
+
+-- one number inserted and another removed, in either order
+pub insert_remove_comm : (s : BitSet) (b c : ℕ) → (b ≢ c) → remove (insert s b) c ≡ insert (remove s c) b
+insert_remove_comm s b c other = same_set _ _ (λ q. grind (arith, members, nat_tests, ne_eqb b c other))
+
+-- a number that is removed and inserted again is inserted
+pub insert_removed : (s : BitSet) (b : ℕ) → insert (remove s b) b ≡ insert s b
+insert_removed s b = grind (arith, decided)
+
+-- a number that is inserted and removed again is removed
+pub remove_inserted : (s : BitSet) (b : ℕ) → remove (insert s b) b ≡ remove s b
+remove_inserted s b = grind (arith, decided)
 
 pub remove_absent : (s : BitSet) (b : ℕ) → contains s b ≡ false → remove s b ≡ s
 remove_absent s b none = grind (arith, decided)
@@ -229,15 +258,6 @@ pub difference_apart : (s t : BitSet) → is_disjoint s t ≡ true → differenc
 difference_apart s t apart = grind (arith, decided)
 
 pub ruleset on_subsets = (is_disjoint_empty, is_disjoint_difference, union_left, union_right, intersection_left, intersection_right, difference_left, insert_grows, remove_shrinks, union_within, intersection_within, difference_within, intersection_apart, difference_apart)
-
--- ---- where a search meets a difference or an intersection
-
--- the first part is always true: it shows the search where to use the law
-pub difference_tells : (s t : BitSet) → (difference s t ≡ difference s t) × (difference s t ≡ empty → is_subset s t ≡ true)
-difference_tells s t = (refl, difference_none s t)
-
-pub intersection_tells : (s t : BitSet) → (intersection s t ≡ intersection s t) × (intersection s t ≡ empty → is_disjoint s t ≡ true)
-intersection_tells s t = (refl, (is_disjoint_iff s t).1)
 
 -- ---- a set from a list of its members
 

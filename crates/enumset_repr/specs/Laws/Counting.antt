@@ -1,4 +1,5 @@
 -- How many members sets have.
+--     ascending_retain, len_retain      the members that pass a test, ascending;  how many they are, as a count
 --     ascending_intersection, ascending_difference      the members of s that are in t, and that are not, ascending
 --     is_empty_difference, is_empty_intersection      tests of subsets and of disjoint sets
 --     len_parts      the members of s outside t and those inside t are all of s
@@ -7,9 +8,14 @@
 --     len_union      a union and an intersection together have as many members as the two sets together
 --     len_intersection, len_difference, len_subset      a subset has at most as many members
 --     len_proper      a proper subset has fewer members
+--     len_union_most, len_disjoint_union      a union has at most as many members as the two sets together, and as many
+--         if they are disjoint
+--     len_complement      a subset and its complement have as many members as the set
+--     subset_equality      a subset with as many members is the whole set
 --     len_apart      how many members of s are in the union of two disjoint sets
 --     len_inserted, len_removed      inserting a number adds one member;  removing a member leaves one less
 --     len_zero_iff      a set has 0 members exactly if it is the empty set
+--     len_only, len_all_below      a set of one number has one member;  there are n numbers below n
 --     kept_count, left_count      the length of the list of the members of s that are in t, and that are not
 --     len_kept, len_left      the number of members of s that are in t, and that are not, as a count over the list of s
 --     len_kept_both, len_kept_either, len_kept_but, len_left_both      the number of members of s that are in both of
@@ -19,11 +25,11 @@
 use Rattle.std.proofs.Common.{◌≡◌, ◌≤◌, ◌<◌, ◌+◌, ◌-◌, ℕ, suc, zero, Bool, true, false, cond, not, ◌&&◌, ◌||◌, List, [], ◌∷◌, length, filter, count_by, refl, sym, ap, subst, ◌∙◌, arith, ◌↔◌, ◌==◌}
 use Rattle.std.proofs.lemmas.Bool.Decides.{nat_tests, same_from_decides}
 use Rattle.std.proofs.lemmas.List.Sums.{length-filter}
-use Rattle.enumset_repr.specs.BitSet.{BitSet, is_in, contains, ascending, len, is_empty, empty, insert, remove, union, intersection, difference, is_subset, is_disjoint, is_same}
+use Rattle.enumset_repr.specs.BitSet.{BitSet, is_in, contains, ascending, len, is_empty, empty, insert, only, remove, retain, union, intersection, difference, is_subset, is_disjoint, is_same, below}
 use Rattle.std.proofs.lemmas.List.Filters.{length-filter_both}
-use Rattle.enumset_repr.specs.Laws.Members.{contains_empty, contains_union, contains_ascending, contains_intersection, contains_difference, is_subset_iff, is_disjoint_iff}
-use Rattle.enumset_repr.specs.Laws.Algebra.{intersection_comm, intersection_assoc, intersection_within, intersection_over_union, union_difference, union_within}
-use Rattle.enumset_repr.specs.Laws.MemberRules.{decided}
+use Rattle.enumset_repr.specs.Laws.Members.{contains_empty, contains_retain, contains_union, contains_ascending, contains_intersection, contains_difference, contains_below, is_subset_iff, is_disjoint_iff}
+use Rattle.enumset_repr.specs.Laws.Algebra.{intersection_comm, intersection_assoc, intersection_within, intersection_apart, intersection_over_union, union_difference, union_within}
+use Rattle.enumset_repr.specs.Rules.Members.{decided}
 use Rattle.enumset_repr.specs.Laws.Ascending.{AscendsFrom, ascends_lower, ascending_ascends, ascending_is, len_ascending, len_below, len_empty, len_insert, len_remove, empty_of_len, is_empty_iff}
 
 module _ (p : ℕ → Bool) where
@@ -38,15 +44,23 @@ module _ (p : ℕ → Bool) where
   is_in-filter q [] = refl
   is_in-filter q (x ∷ xs) = grind (arith, nat_tests, is_in-filter q xs)
 
+-- the members that pass a test, ascending
+pub ascending_retain : (s : BitSet) (p : ℕ → Bool) → ascending (retain s p) ≡ filter p (ascending s)
+ascending_retain s p = ascending_is (retain s p) (filter p (ascending s))
+    (ascends-filter p 0 (ascending s) (ascending_ascends s))
+    (λ q. grind (arith, contains_retain s p q, contains_ascending s q, is_in-filter p q (ascending s)))
+
 pub ascending_intersection : (s t : BitSet) → ascending (intersection s t) ≡ filter (contains t) (ascending s)
-ascending_intersection s t = ascending_is (intersection s t) (filter (contains t) (ascending s))
-    (ascends-filter (contains t) 0 (ascending s) (ascending_ascends s))
-    (λ q. grind (arith, contains_intersection s t q, contains_ascending s q, is_in-filter (contains t) q (ascending s)))
+unfolding intersection
+ascending_intersection s t = ascending_retain s (contains t)
 
 pub ascending_difference : (s t : BitSet) → ascending (difference s t) ≡ filter (λ b. not (contains t b)) (ascending s)
-ascending_difference s t = ascending_is (difference s t) (filter (λ b. not (contains t b)) (ascending s))
-    (ascends-filter (λ b. not (contains t b)) 0 (ascending s) (ascending_ascends s))
-    (λ q. grind (arith, contains_difference s t q, contains_ascending s q, is_in-filter (λ b. not (contains t b)) q (ascending s)))
+unfolding difference
+ascending_difference s t = ascending_retain s (λ b. not (contains t b))
+
+-- how many members pass a test, as a count over the list of s
+pub len_retain : (s : BitSet) (p : ℕ → Bool) → len (retain s p) ≡ count_by p (ascending s)
+len_retain s p = len_ascending (retain s p) ∙ ap length (ascending_retain s p) ∙ length-filter p (ascending s)
 
 pub is_empty_difference : (s t : BitSet) → is_empty (difference s t) ≡ is_subset s t
 is_empty_difference s t = same_from_decides _ _ (is_empty_iff _) (is_subset_iff s t)
@@ -97,6 +111,18 @@ len_proper s t within other =
     let back : is_subset t s ≡ false = grind (arith, decided) in
     let most = len_subset s t within in grind (arith, nat_tests)
 
+-- a union has at most as many members as both sets together
+pub len_union_most : (s t : BitSet) → len (union s t) ≤ len s + len t
+len_union_most s t = omega (arith, len_union s t)
+
+-- a union of disjoint sets has as many members as both together
+pub len_disjoint_union : (s t : BitSet) → is_disjoint s t ≡ true → len (union s t) ≡ len s + len t
+len_disjoint_union s t apart = omega (arith, len_union s t, ap len (intersection_apart s t apart), len_empty)
+
+-- the complement of s within v
+pub len_complement : (v s : BitSet) → is_subset s v ≡ true → len (difference v s) + len s ≡ len v
+len_complement v s within = omega (arith, len_parts v s, ap len (intersection_comm v s ∙ intersection_within s v within))
+
 pub len_apart : (s t u : BitSet) → is_disjoint t u ≡ true → len (intersection s (union t u)) ≡ len (intersection s t) + len (intersection s u)
 len_apart s t u apart =
     let none : intersection (intersection s t) (intersection s u) ≡ empty = grind (arith, decided) in
@@ -107,6 +133,22 @@ len_zero_iff s = (empty_of_len s, λ e. ap len e ∙ len_empty)
 
 pub len_inserted : (s : BitSet) (b : ℕ) → contains s b ≡ false → len (insert s b) ≡ len s + 1
 len_inserted s b none = len_insert s b ∙ ap (λ t. cond t (len s) (len s + 1)) none
+
+-- a set of one number has one member
+pub len_only : (b : ℕ) → len (only b) ≡ 1
+len_only b = omega (arith, len_inserted empty b (contains_empty b), len_empty)
+
+-- there are n numbers below n
+pub len_all_below : (n : ℕ) → len (below n) ≡ n
+unfolding below
+len_all_below zero = len_empty
+len_all_below (suc n) = omega (arith, len_inserted (below n) n (grind (arith, nat_tests, contains_below n n)), len_all_below n)
+
+-- a subset with as many members is the whole set
+pub subset_equality : (s t : BitSet) → is_subset s t ≡ true → len s ≡ len t → s ≡ t
+subset_equality s t within same =
+    let none = (len_zero_iff (difference t s)).0 (omega (arith, len_complement t s within, same)) in
+    grind (arith, decided)
 
 pub len_some : (s : BitSet) (b : ℕ) → contains s b ≡ true → 1 ≤ len s
 len_some s b one = some (len s) refl where

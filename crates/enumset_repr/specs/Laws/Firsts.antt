@@ -11,8 +11,7 @@ use Rattle.std.proofs.Common.{◌≡◌, ◌≤◌, ℕ, suc, Bool, true, false,
 use Rattle.std.proofs.lemmas.Bool.Decides.{nat_tests}
 use Rattle.enumset_repr.specs.BitSet.{BitSet, is_in, contains, ascending, empty, insert, remove, from_list}
 use Rattle.enumset_repr.specs.Ends.{first, last, without_first, without_last, least, greatest}
-use Rattle.enumset_repr.specs.Laws.Members.{contains_ascending, contains_insert}
-use Rattle.enumset_repr.specs.Laws.MemberRules.{union_only}
+use Rattle.enumset_repr.specs.Laws.Members.{contains_ascending, contains_insert, union_only}
 use Rattle.enumset_repr.specs.Laws.Ascending.{AscendsFrom, ascending_ascends, ascending_is, ascending_empty, empty_of_ascending, is_in_from}
 use Rattle.enumset_repr.specs.Laws.Ends.{ascending_least, ascending_greatest, least_facts, greatest_facts, last_push, without_last_push}
 

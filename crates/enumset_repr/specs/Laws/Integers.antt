@@ -15,8 +15,7 @@ use Rattle.std.specs.Int.{bit_not, Width, w128}
 use Rattle.enumset_repr.specs.BitSet.{contains, only, difference, is_subset, below, union, is_empty}
 use Rattle.enumset_repr.specs.Laws.Algebra.{intersection_right, symmetric_difference_within, intersection_within}
 use Rattle.enumset_repr.specs.Laws.Ends.{trailing_least, least_fits, leading_greatest, clear_least, least_positive}
-use Rattle.enumset_repr.specs.Laws.MemberRules.{union_only, difference_only}
-use Rattle.enumset_repr.specs.Laws.Members.{subsets, contains_below, union_is_subset, is_disjoint_iff}
+use Rattle.enumset_repr.specs.Laws.Members.{union_only, difference_only, subsets, contains_below, union_is_subset, is_disjoint_iff}
 use Rattle.enumset_repr.specs.Laws.Numbers.{number_bits, number_within, bits_full, bits_within, bits_and, bits_or, bits_xor, bits_not, bits_and_not, bits_one_shifted, bits_test, bits_zero, on_numbers, bits_number, bits_is_empty}
 use Rattle.enumset_repr.specs.Laws.Words.{word_bits, bits_put_low, bits_put_word}
 use Rattle.enumset_repr.specs.Number.{number, bits}

@@ -5,6 +5,7 @@
 --     is_subset_.., contains_is_subset, is_subset_iff      a subset, by its members;  by an empty difference
 --     is_disjoint_.., contains_is_disjoint, is_disjoint_iff      disjoint sets, by their members;  by an empty
 --         intersection
+--     union_only, difference_only      a union and a difference with the set of one number
 --     .._is_subset      the result of an operation on subsets of a set is a subset of it;  the ruleset `subsets` has
 --         them all
 --     member_below, contains_past      members of sets of numbers below a bound
@@ -15,7 +16,7 @@ use Rattle.std.proofs.lemmas.Bool.{and_parts, and_from, or_left, or_right, not-t
 use Rattle.std.proofs.lemmas.Bool.Decides.{nat_tests, same_from_decides}
 use Rattle.std.specs.Cmp.{nat_cmp_total, unsigned_tied, IsEquivalence, IsPartialEquivalence, partial_equiv_from_equiv}
 use Rattle.std.specs.List.{list_any, list_all}
-use Rattle.enumset_repr.specs.BitSet.{BitSet, contains, ascending, empty, insert, remove, retain, from_list, insert_each, union, intersection, difference, symmetric_difference, is_subset, is_disjoint, is_same, below, low}
+use Rattle.enumset_repr.specs.BitSet.{BitSet, contains, ascending, empty, insert, only, remove, retain, from_list, insert_each, union, intersection, difference, symmetric_difference, is_subset, is_disjoint, is_same, below, low}
 use Rattle.std.specs.FinMap as map
 
 marked : Bool → Option (Unit {0})
@@ -151,6 +152,16 @@ is_same_iff s t = (
   λ same. same_set s t (λ q. same_from_decides _ _ (is_subset_contains s t (and_parts _ _ same).0 q, is_subset_contains t s (and_parts _ _ same).1 q) (λ h. h, λ h. h)),
   λ e. and_from _ _ (subst (λ u. is_subset s u ≡ true) e (is_subset_itself s)) (subst (λ u. is_subset u s ≡ true) e (is_subset_itself s)),
 )
+
+-- ---- a set of one number
+
+-- a union with one number inserts it
+pub union_only : (s : BitSet) (b : ℕ) → union s (only b) ≡ insert s b
+union_only s b = same_set _ _ (λ q. grind (arith, members))
+
+-- a difference with one number removes it
+pub difference_only : (s : BitSet) (b : ℕ) → difference s (only b) ≡ remove s b
+difference_only s b = same_set _ _ (λ q. grind (arith, members))
 
 -- ---- subsets of one set
 

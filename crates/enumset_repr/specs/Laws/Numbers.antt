@@ -17,8 +17,7 @@ use Rattle.std.specs.Int.Count.{count_trailing_zeros, count_leading_zeros, under
 use Rattle.std.specs.Int.RustNames.{count_ones}
 use Rattle.enumset_repr.specs.BitSet.{is_in, BitSet, contains, ascending, len, is_empty, empty, insert, only, remove, union, intersection, difference, symmetric_difference, is_subset, below, low}
 use Rattle.enumset_repr.specs.Number.{number, bits}
-use Rattle.enumset_repr.specs.Laws.Members.{same_set, contains_empty, contains_ascending, contains_retain, contains_remove, contains_insert, contains_union, contains_intersection, contains_difference, contains_symmetric_difference, contains_below, contains_low, is_subset_contains, contains_is_subset}
-use Rattle.enumset_repr.specs.Laws.MemberRules.{union_only, difference_only}
+use Rattle.enumset_repr.specs.Laws.Members.{same_set, contains_empty, contains_ascending, contains_retain, contains_remove, contains_insert, contains_union, contains_intersection, contains_difference, contains_symmetric_difference, contains_below, contains_low, is_subset_contains, contains_is_subset, union_only, difference_only}
 use Rattle.enumset_repr.specs.Laws.Algebra.{intersection_difference}
 use Rattle.enumset_repr.specs.Laws.Ascending.{AscendsFrom, ascending_ascends, ascending_empty, is_in_below, len_ascending, is_empty_iff}
 

@@ -11,7 +11,7 @@
 --     complement_..      the difference of a set v and a set with members outside v
 use Rattle.std.proofs.Common.{◌≡◌, ◌+◌, ◌*◌, ℕ, true, false, ◌&&◌, ap, arith}
 use Rattle.enumset_repr.specs.BitSet.{BitSet, contains, len, empty, insert, remove, union, intersection, difference, symmetric_difference, is_subset}
-use Rattle.enumset_repr.specs.Laws.MemberRules.{decided}
+use Rattle.enumset_repr.specs.Rules.Members.{decided}
 use Rattle.enumset_repr.specs.Laws.Algebra.{intersection_assoc}
 use Rattle.enumset_repr.specs.Laws.Counting.{len_parts, len_union}
 

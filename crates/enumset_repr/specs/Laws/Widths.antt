@@ -18,7 +18,7 @@ use Rattle.std.proofs.lemmas.Grind.{low_zeros}
 use Rattle.std.proofs.lemmas.Nat.{and_mask}
 use Rattle.enumset_repr.specs.BitSet.{BitSet, empty, intersection, is_subset, below, low}
 use Rattle.enumset_repr.specs.Number.{number}
-use Rattle.enumset_repr.specs.Laws.MemberRules.{decided}
+use Rattle.enumset_repr.specs.Rules.Members.{decided}
 use Rattle.enumset_repr.specs.Laws.Algebra.{is_subset_trans, intersection_right, difference_within, difference_none}
 use Rattle.enumset_repr.specs.Laws.Counting.{is_empty_difference, is_empty_intersection}
 use Rattle.enumset_repr.specs.Laws.Numbers.{bits_low, bits_number, number_bits, bits_within, number_within}

@@ -1,31 +1,17 @@
--- What the valid bits say about counts.
---     len_valid      how many valid bits there are
---     len_within      a set of valid bits has at most as many members
+-- What is left of the valid bits.
 --     fewer_left, fewer_left_than      fewer valid bits are left after a set gets a member that it lacks, or the
 --         members of a set that has such a member
--- The ruleset `valid_counts` has the first two, for use with `counts`; `fewer` has the others, for the measure of a
--- loop that goes on until nothing changes.
+-- The ruleset `fewer` has both, for the measure of a loop that goes on until nothing changes.
 use Rattle.std.proofs.Common.{◌≡◌, ◌<◌, ◌≤◌, ℕ, Bool, true, false, true≢false, length, arith, refl, sym, ap, ◌∙◌}
 use Rattle.std.proofs.lemmas.Bool.{false_from_ne_true}
 use Rattle.enumset_repr.specs.BitSet.{BitSet, contains, insert, remove, union, difference, is_subset, len}
-use Rattle.enumset_repr.specs.Laws.CountRules.{counted}
+use Rattle.enumset_repr.specs.Rules.Counts.{counted}
 use Rattle.enumset_repr.specs.Laws.Counting.{len_subset, len_proper, len_removed}
-use Rattle.enumset_repr.specs.Laws.MemberRules.{decided}
+use Rattle.enumset_repr.specs.Rules.Members.{decided}
 use Rattle.enumset_repr.specs.Laws.Members.{members, is_subset_contains, contains_is_subset, is_same_iff}
 use Rattle.enumset_repr.specs.Number.{is_distinct}
 use Rattle.enumset_sets.specs.Elements.{Elements, valid_bits}
 use Rattle.enumset_sets.specs.Laws.Elements.{len-from_list}
-
-pub len_valid : {T : Type 0} (elements : Elements T) → (len (valid_bits elements) ≡ len (valid_bits elements)) × (is_distinct elements.bit_list ≡ true → len (valid_bits elements) ≡ length elements.bit_list)
-unfolding valid_bits
-len_valid elements = (refl, len-from_list elements.bit_list)
-
-pub len_within : {T : Type 0} (elements : Elements T) (s : BitSet) (w : Bool) → (is_subset s (valid_bits elements) ≡ is_subset s (valid_bits elements)) × (counted s w ≡ counted s w) × (is_subset s (valid_bits elements) ≡ true → len s ≤ len (valid_bits elements))
-len_within elements s w = (refl, refl, len_subset s (valid_bits elements))
-
-pub ruleset valid_counts = (len_valid, len_within)
-
--- ---- what is left
 
 pub fewer_left : (all s : BitSet) (b : ℕ) → contains all b ≡ true → contains s b ≡ false → len (difference all (insert s b)) < len (difference all s)
 fewer_left all s b valid lacks =

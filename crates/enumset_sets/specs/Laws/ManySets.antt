@@ -1,24 +1,25 @@
 -- Folds of a list of sets: only which items the list has matters, neither their order nor repeats.
 --     contains_intersection_all, contains_union_all      which bits are in all the sets of a list;  in any of them
 --     contains_fold_intersection, contains_fold_union      which bits std's `fold` over a list of sets leaves
---     .._once      which bits a fold has, wherever the fold and the number are in sight:  `MemberRules` of
---         `enumset_repr` says how
 --     intersection_all_more      an intersection with one more set at the end of the list
 --     union_all_none, union_all_step      the union of a set with all sets of a list, one after another
 --     any_same      whether a test passes for any item, for lists with the same items
 --     from_list_same, union_all_same, intersection_all_same      lists with the same items make the same set
+--     union_all_member, union_all_within, union_all_mono      the union of the sets that a function makes of the members
+--         of a set has each of these sets, is within each set that has them all, and is greater for a greater set
 --     .._is_subset, .._is_disjoint      a union of many is a subset of a set, or disjoint from it, exactly if each is
--- The ruleset `folds` has what `contains` returns, one more set, and one set after another;  `folds_once` has the same,
--- for use with `decided`.
-use Rattle.std.proofs.Common.{◌≡◌, ℕ, Bool, true, not, ◌&&◌, ◌||◌, List, [], ◌∷◌, ◌++◌, map, fold, refl, sym, ap, ◌∙◌, arith, Contains, ◌↔◌, ◌==◌}
-use Rattle.std.proofs.lemmas.Bool.Decides.{same_from_decides}
+-- The ruleset `folds` has what `contains` returns, one more set, and one set after another.
+use Rattle.std.proofs.Common.{◌≡◌, ℕ, Bool, true, false, true≢false, not, ◌&&◌, ◌||◌, List, [], ◌∷◌, ◌++◌, map, fold, refl, sym, ap, subst, ◌∙◌, arith, Contains, ◌↔◌, ◌==◌, eq-eqb, eqb-true}
+use Rattle.std.proofs.lemmas.Bool.{or_left, or_right}
+use Rattle.std.proofs.lemmas.Bool.Decides.{nat_tests, same_from_decides}
 use Rattle.std.proofs.lemmas.List.Folds.{Any-from_list_any, list_any_at}
 use Rattle.std.specs.List.{list_all, list_any}
-use Rattle.enumset_repr.specs.BitSet.{BitSet, is_in, contains, union, intersection, is_subset, is_disjoint, from_list}
-use Rattle.enumset_repr.specs.Laws.Algebra.{union_empty, union_assoc}
+use Rattle.enumset_repr.specs.BitSet.{BitSet, is_in, contains, ascending, union, intersection, is_subset, is_disjoint, from_list}
+use Rattle.enumset_repr.specs.Laws.Algebra.{union_empty, union_assoc, union_left, union_right, is_subset_trans}
 use Rattle.enumset_repr.specs.Laws.Iteration.{all_not_any}
-use Rattle.enumset_repr.specs.Laws.MemberRules.{at, decided}
-use Rattle.enumset_repr.specs.Laws.Members.{members, same_set, contains_from_list, contains_empty, contains_union, empty_is_subset}
+use Rattle.enumset_repr.specs.Laws.Lattice.{is_disjoint_union}
+use Rattle.enumset_repr.specs.Rules.Members.{at, decided}
+use Rattle.enumset_repr.specs.Laws.Members.{members, same_set, contains_from_list, contains_empty, contains_union, contains_ascending, is_subset_contains, empty_is_subset, union_is_subset}
 use Rattle.enumset_repr.specs.Laws.Sets.{is_subset_union}
 use Rattle.enumset_sets.specs.Folds.{union_all, intersection_all}
 
@@ -81,16 +82,7 @@ intersection_all_same s ts us same = same_set _ _ (λ q.
     ∙ ap (λ b. contains s q && b) (all_not_any (λ t. contains t q) ts ∙ ap not (any_same (λ t. not (contains t q)) ts us same) ∙ sym (all_not_any (λ t. contains t q) us))
     ∙ sym (contains_intersection_all s us q))
 
--- ---- for use with `decided`
-
-pub union_all_once : (ss : List BitSet) (q : ℕ) (w : Bool) → (union_all ss ≡ union_all ss) × (at q w ≡ at q w) × (contains (union_all ss) q ≡ list_any (λ s. contains s q) ss)
-union_all_once ss q w = (refl, refl, contains_union_all ss q)
-
-pub fold_union_once : (s : BitSet) (ts : List BitSet) (q : ℕ) (w : Bool) → (fold union s ts ≡ fold union s ts) × (at q w ≡ at q w) × (contains (fold union s ts) q ≡ (contains s q || list_any (λ t. contains t q) ts))
-fold_union_once s ts q w = (refl, refl, contains_fold_union s ts q)
-
-pub fold_intersection_once : (s : BitSet) (ts : List BitSet) (q : ℕ) (w : Bool) → (fold intersection s ts ≡ fold intersection s ts) × (at q w ≡ at q w) × (contains (fold intersection s ts) q ≡ (contains s q && list_all (λ t. contains t q) ts))
-fold_intersection_once s ts q w = (refl, refl, contains_fold_intersection s ts q)
+-- ---- subsets and disjoint sets
 
 -- a union of many is a subset of a set exactly if each is
 pub fold_is_subset : (s : BitSet) (ts : List BitSet) (u : BitSet) → is_subset (fold union s ts) u ≡ (is_subset s u && list_all (λ t. is_subset t u) ts)
@@ -102,19 +94,41 @@ unfolding union_all
 union_all_is_subset [] u = empty_is_subset u
 union_all_is_subset (s ∷ ss) u = is_subset_union s (union_all ss) u ∙ ap (λ b. is_subset s u && b) (union_all_is_subset ss u)
 
-disjoint_union : (s t u : BitSet) → is_disjoint (union s t) u ≡ (is_disjoint s u && is_disjoint t u)
-disjoint_union s t u = grind (arith, decided)
-
 -- a union of many is disjoint from a set exactly if each is
 pub fold_is_disjoint : (s : BitSet) (ts : List BitSet) (u : BitSet) → is_disjoint (fold union s ts) u ≡ (is_disjoint s u && list_all (λ t. is_disjoint t u) ts)
 fold_is_disjoint s [] u = grind arith
-fold_is_disjoint s (t ∷ ts) u = fold_is_disjoint (union s t) ts u ∙ grind (arith, disjoint_union s t u)
+fold_is_disjoint s (t ∷ ts) u = fold_is_disjoint (union s t) ts u ∙ grind (arith, is_disjoint_union s t u)
 
 pub union_all_is_disjoint : (ss : List BitSet) (u : BitSet) → is_disjoint (union_all ss) u ≡ list_all (λ s. is_disjoint s u) ss
 unfolding union_all
 union_all_is_disjoint [] u = grind (arith, decided)
-union_all_is_disjoint (s ∷ ss) u = disjoint_union s (union_all ss) u ∙ ap (λ b. is_disjoint s u && b) (union_all_is_disjoint ss u)
+union_all_is_disjoint (s ∷ ss) u = is_disjoint_union s (union_all ss) u ∙ ap (λ b. is_disjoint s u && b) (union_all_is_disjoint ss u)
 
-pub ruleset folds_once = (union_all_once, fold_union_once, fold_intersection_once, fold_is_subset, union_all_is_subset, fold_is_disjoint, union_all_is_disjoint, intersection_all_more, union_all_none, union_all_step)
+-- ---- the union of the sets that a function makes of the members of a set
+
+row_in : (f : ℕ → BitSet) (b : ℕ) (bs : List ℕ) → is_in b bs ≡ true → is_subset (f b) (union_all (map f bs)) ≡ true
+unfolding union_all
+row_in f b [] one = absurd (true≢false (sym one))
+row_in f b (c ∷ bs) one = at (b == c) refl (row_in f b bs) where
+  at : (t : Bool) → (b == c) ≡ t → (is_in b bs ≡ true → is_subset (f b) (union_all (map f bs)) ≡ true) → is_subset (f b) (union (f c) (union_all (map f bs))) ≡ true
+  at true same later = subst (λ n. is_subset (f n) (union (f c) (union_all (map f bs))) ≡ true) (sym (eqb-true b c same)) (union_left (f c) (union_all (map f bs)))
+  at false other later = is_subset_trans (f b) _ _ (later (grind (arith, nat_tests))) (union_right (f c) (union_all (map f bs)))
+
+rows_within : (f : ℕ → BitSet) (u : BitSet) (bs : List ℕ) → ((b : ℕ) → is_in b bs ≡ true → is_subset (f b) u ≡ true) → is_subset (union_all (map f bs)) u ≡ true
+unfolding union_all
+rows_within f u [] each = empty_is_subset u
+rows_within f u (b ∷ bs) each = union_is_subset u (f b) (union_all (map f bs)) (each b (or_left (b == b) _ (eq-eqb b b refl))) (rows_within f u bs (λ c one. each c (or_right (c == b) _ one)))
+
+-- the union has the set of each member
+pub union_all_member : (f : ℕ → BitSet) (s : BitSet) (b : ℕ) → contains s b ≡ true → is_subset (f b) (union_all (map f (ascending s))) ≡ true
+union_all_member f s b one = row_in f b (ascending s) (sym (contains_ascending s b) ∙ one)
+
+-- the union is within each set that has the set of each member
+pub union_all_within : (f : ℕ → BitSet) (s u : BitSet) → ((b : ℕ) → contains s b ≡ true → is_subset (f b) u ≡ true) → is_subset (union_all (map f (ascending s))) u ≡ true
+union_all_within f s u each = rows_within f u (ascending s) (λ b one. each b (contains_ascending s b ∙ one))
+
+-- a greater set has a greater union
+pub union_all_mono : (f : ℕ → BitSet) (s t : BitSet) → is_subset s t ≡ true → is_subset (union_all (map f (ascending s))) (union_all (map f (ascending t))) ≡ true
+union_all_mono f s t within = union_all_within f s _ (λ b one. union_all_member f t b (is_subset_contains s t within b one))
 
 pub ruleset folds = (contains_intersection_all, contains_union_all, contains_fold_intersection, contains_fold_union, intersection_all_more, union_all_none, union_all_step)

@@ -1,5 +1,5 @@
 use Rattle.std.proofs.Common.{◌≡◌, true, false, arith, rules}
-use Rattle.enumset_repr.specs.Laws.MemberRules.{decided}
+use Rattle.enumset_repr.specs.Rules.Members.{decided}
 use Rattle.enumset.specs.Sets.{is_subset, in_place, valid_bits}
 use Rattle.example_set_facts.specs.contracts.features.Feature.{the_type}
 use Rattle.example_set_facts.proofs.AllNeeds.{in_each_at_first, more_in_each, complete, fewer_left}

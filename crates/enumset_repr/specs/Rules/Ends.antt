@@ -5,22 +5,23 @@
 --     least_tells, greatest_tells      `least` is a member, and none is less;  `greatest` is one, and none is greater;
 --         if there is neither, the set is empty
 --     least_at, greatest_at      what `least` and `greatest` say of a number that is looked up in this set or another
+--     difference_tells, intersection_tells      a difference or an intersection that is empty
 --     .._in      what is found is a member;  if nothing is found, there is none
 --     .._has      no member in sight is less, or greater
 --     ascending_..      the list of the members
--- The ruleset `found` has the first three lines. The ruleset `ends` has the others, and goes with `decided` of
--- `MemberRules`, whose first lines say why these have a dummy variable.
+-- The ruleset `found` has the first four lines. The ruleset `ends` has the others, and goes with `decided` of
+-- `Members`, whose first lines say why these have a dummy variable.
 use Rattle.std.proofs.Common.{◌≡◌, ◌≤◌, ℕ, suc, Bool, true, false, cond, List, [], ◌∷◌, Option, Some, None, refl, sym, ap, subst, ◌∙◌, arith, ◌==◌, MatchOption, find, eq-eqb, ◌↔◌}
 use Rattle.std.proofs.lemmas.Bool.{or_left, or_right}
 use Rattle.std.proofs.lemmas.Bool.Decides.{nat_tests}
-use Rattle.enumset_repr.specs.BitSet.{BitSet, is_in, contains, ascending, empty}
+use Rattle.enumset_repr.specs.BitSet.{BitSet, is_in, contains, ascending, empty, intersection, difference, is_subset, is_disjoint}
 use Rattle.enumset_repr.specs.Ends.{least, greatest, first}
-use Rattle.enumset_repr.specs.Laws.Algebra.{difference_tells, intersection_tells}
+use Rattle.enumset_repr.specs.Laws.Algebra.{difference_none}
 use Rattle.enumset_repr.specs.Laws.Ascending.{AscendsFrom, ascending_ascends, empty_of_ascending, is_in_from}
 use Rattle.enumset_repr.specs.Laws.Ends.{least_facts, greatest_facts, ascending_no_least, ascending_no_greatest}
-use Rattle.enumset_repr.specs.Laws.Members.{members, contains_empty, contains_ascending}
+use Rattle.enumset_repr.specs.Laws.Members.{members, contains_empty, contains_ascending, is_disjoint_iff}
 use Rattle.enumset_repr.specs.Laws.Firsts.{last_is_greatest, ascending_empty_iff}
-use Rattle.enumset_repr.specs.Laws.MemberRules.{at}
+use Rattle.enumset_repr.specs.Rules.Members.{at}
 
 -- what `find` finds, where `inside` tells which numbers are in the list
 abbrev pub IsLeast : (ℕ → Bool) → (ℕ → Bool) → Option ℕ → Type 0
@@ -65,6 +66,14 @@ greatest_at s t q = (refl, refl, by (greatest s) (greatest_tells s).1) where
   by : (o : Option ℕ) → MatchOption o (s ≡ empty) (λ m. (contains s m ≡ true) × ((q : ℕ) → contains s q ≡ true → q ≤ m)) → MatchOption o (contains s q ≡ false) (λ m. contains s q ≡ true → q ≤ m)
   by None none = ap (λ u. contains u q) none ∙ contains_empty q
   by (Some m) some = some.1 q
+
+-- ---- where a search meets a difference or an intersection
+
+pub difference_tells : (s t : BitSet) → (difference s t ≡ difference s t) × (difference s t ≡ empty → is_subset s t ≡ true)
+difference_tells s t = (refl, difference_none s t)
+
+pub intersection_tells : (s t : BitSet) → (intersection s t ≡ intersection s t) × (intersection s t ≡ empty → is_disjoint s t ≡ true)
+intersection_tells s t = (refl, (is_disjoint_iff s t).1)
 
 pub ruleset found = (found_tells, least_tells, greatest_tells, least_at, greatest_at, members, difference_tells, intersection_tells)
 

@@ -4,18 +4,19 @@
 --         variants
 --     chains      for a function with a chain of iterators
 --     loops      for a function with a loop
--- `#![tactic(auto, using(enumset_sets::specs::Laws::SetLaws::set_laws))]`
--- `MemberRules` of `enumset_repr` says how `set_laws` proves a goal, and what must not be in it.
-use Rattle.enumset_repr.specs.Laws.CountRules.{counts}
-use Rattle.enumset_repr.specs.Laws.EndRules.{ends}
-use Rattle.enumset_repr.specs.Laws.Iteration as steps
-pub use Rattle.enumset_repr.specs.Laws.Iteration.{chains}
-use Rattle.enumset_repr.specs.Laws.MemberRules.{decided}
+-- `#![tactic(auto, using(enumset_sets::specs::Rules::SetLaws::set_laws))]`
+-- `Rules/Members.antt` of `enumset_repr` says how `set_laws` proves a goal, and what must not be in it.
+use Rattle.enumset_repr.specs.Rules.Counts.{counts}
+use Rattle.enumset_repr.specs.Rules.Ends.{ends}
+use Rattle.enumset_repr.specs.Rules.Iteration as steps
+pub use Rattle.enumset_repr.specs.Rules.Iteration.{chains}
+use Rattle.enumset_repr.specs.Rules.Members.{decided}
 use Rattle.enumset_repr.specs.Laws.Numbers.{bits_number, number_bits, bits_within, number_within}
 use Rattle.enumset_repr.specs.Laws.Order.{ordering}
-use Rattle.enumset_sets.specs.Laws.Counts.{valid_counts, fewer}
+use Rattle.enumset_sets.specs.Laws.Counts.{fewer}
+use Rattle.enumset_sets.specs.Rules.Counts.{valid_counts}
 use Rattle.enumset_sets.specs.Laws.Elements.{bits_of_variants}
-use Rattle.enumset_sets.specs.Laws.ManySets.{folds_once}
+use Rattle.enumset_sets.specs.Rules.ManySets.{folds_once}
 
 pub ruleset set_laws = (decided, ends, counts, folds_once, ordering, bits_number, number_bits, bits_within, number_within, bits_of_variants, valid_counts)
 

@@ -1,4 +1,4 @@
--- Rules for a search: how many members sets have. They go with `decided` of `MemberRules`, whose first lines say why a
+-- Rules for a search: how many members sets have. They go with `decided` of `Members`, whose first lines say why a
 -- rule has a dummy variable.
 --     counts      how many members a union, an intersection, a difference and the like have
 --     counts_of_parts      what subsets and disjoint sets say about numbers of members;  a subset with as many members
@@ -9,12 +9,11 @@ use Rattle.std.proofs.lemmas.Bool.Decides.{nat_tests}
 use Rattle.enumset_repr.specs.BitSet.{BitSet, contains, below, empty, only, union, intersection, difference, symmetric_difference, is_subset, is_disjoint, is_empty, len}
 use Rattle.enumset_repr.specs.Ends.{least}
 use Rattle.enumset_repr.specs.Laws.Ascending.{len_empty, len_insert, len_below, len_remove}
-use Rattle.enumset_repr.specs.Laws.Counting.{len_union_same, len_inserted, len_union, len_parts, len_zero_iff}
-use Rattle.enumset_repr.specs.Laws.Members.{contains_empty}
+use Rattle.enumset_repr.specs.Laws.Counting.{len_union_same, len_union, len_parts, len_zero_iff, len_only, subset_equality}
 use Rattle.enumset_repr.specs.Laws.Algebra.{intersection_comm}
 use Rattle.enumset_repr.specs.Laws.Sets.{len_symmetric_difference}
-use Rattle.enumset_repr.specs.Laws.MemberRules.{decided}
-use Rattle.enumset_repr.specs.Laws.EndRules.{least_in}
+use Rattle.enumset_repr.specs.Rules.Members.{decided}
+use Rattle.enumset_repr.specs.Rules.Ends.{least_in}
 
 -- ---- sets whose members are counted
 
@@ -68,20 +67,14 @@ len_of_disjoint s t u w = (refl, refl, disjoint_len s t)
 pub len_of_below : (s : BitSet) (n : ℕ) (u : BitSet) (w : Bool) → (is_subset s (below n) ≡ is_subset s (below n)) × (counted u w ≡ counted u w) × (is_subset s (below n) ≡ true → len s ≤ n)
 len_of_below s n u w = (refl, refl, len_below s n)
 
-subset_whole : (s t : BitSet) → is_subset s t ≡ true → len s ≡ len t → s ≡ t
-subset_whole s t within same =
-    let part : intersection t s ≡ s = grind (arith, decided) in
-    let none = (len_zero_iff (difference t s)).0 (omega (arith, len_parts t s, ap len part, same)) in
-    grind (arith, decided)
-
 -- a subset with as many members is the whole set
 pub len_of_whole : (s t : BitSet) (v w : Bool) → (is_subset s t ≡ is_subset s t) × (counted s v ≡ counted s v) × (counted t w ≡ counted t w) × (is_subset s t ≡ true → len s ≡ len t → s ≡ t)
-len_of_whole s t v w = (refl, refl, refl, subset_whole s t)
+len_of_whole s t v w = (refl, refl, refl, subset_equality s t)
 
 only_member : (s : BitSet) (b : ℕ) → contains s b ≡ true → len s ≡ 1 → s ≡ only b
 only_member s b one single =
     let within : is_subset (only b) s ≡ true = grind (arith, decided) in
-    sym (subset_whole (only b) s within (omega (arith, len_inserted empty b (contains_empty b), len_empty, single)))
+    sym (subset_equality (only b) s within (len_only b ∙ sym single))
 
 -- the first member of a set of one is the only one
 pub len_of_only : (s : BitSet) (w : Bool) → (least s ≡ least s) × (counted s w ≡ counted s w) × MatchOption (least s) (s ≡ empty) (λ m. len s ≡ 1 → s ≡ only m)

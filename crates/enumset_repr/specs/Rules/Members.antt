@@ -21,14 +21,14 @@
 --     a law that makes a witness of `is_subset s t ≡ false`, for the same reason:  `contains_is_subset` does its work,
 --         and so does `contains_is_disjoint`
 --     a law that counts wherever `is_subset` or `is_disjoint` occurs, since it makes terms at each of them:  see
---         `counts_of_parts` of `CountRules`
+--         `counts_of_parts` of `Counts`
 -- `union_only` and `difference_only` are here since a goal like `result ≡ Some (insert s b)` is not an equation between
 -- sets.
 use Rattle.std.proofs.Common.{◌≡◌, ◌↔◌, ℕ, Bool, true, false, arith, List, [], ◌∷◌, get_or, refl, sym, ap, ◌∙◌, not, ◌&&◌, ◌||◌, true≢false, ◌==◌, nat_lt}
 use Rattle.std.proofs.lemmas.Bool.{false_from_ne_true}
 use Rattle.std.proofs.lemmas.Bool.Decides.{nat_tests, same_from_decides}
-use Rattle.enumset_repr.specs.BitSet.{BitSet, is_in, contains, ascending, is_empty, empty, insert, remove, retain, only, union, intersection, difference, symmetric_difference, is_subset, is_disjoint, is_same, below, low}
-use Rattle.enumset_repr.specs.Laws.Members.{members, same_set, contains_empty, contains_insert, contains_remove, contains_retain, contains_ascending, contains_from_list, contains_union, contains_intersection, contains_difference, contains_symmetric_difference, contains_below, contains_low, is_subset_contains, contains_is_subset, is_disjoint_contains, contains_is_disjoint, is_same_iff}
+use Rattle.enumset_repr.specs.BitSet.{BitSet, is_in, contains, ascending, is_empty, empty, insert, remove, retain, union, intersection, difference, symmetric_difference, is_subset, is_disjoint, is_same, below, low}
+use Rattle.enumset_repr.specs.Laws.Members.{members, same_set, union_only, difference_only, contains_empty, contains_insert, contains_remove, contains_retain, contains_ascending, contains_from_list, contains_union, contains_intersection, contains_difference, contains_symmetric_difference, contains_below, contains_low, is_subset_contains, contains_is_subset, is_disjoint_contains, contains_is_disjoint, is_same_iff}
 use Rattle.enumset_repr.specs.Laws.Ascending.{empty_of_ascending, is_empty_iff}
 
 -- ---- a number that decides a test
@@ -123,12 +123,6 @@ low_once s n q w = (refl, refl, contains_low s n q)
 
 pub insert_in : (s : BitSet) (b : ℕ) → (insert s b ≡ insert s b) × (contains (insert s b) b ≡ true)
 insert_in s b = (refl, grind (arith, members, nat_tests))
-
-pub union_only : (s : BitSet) (b : ℕ) → union s (only b) ≡ insert s b
-union_only s b = same_set _ _ (λ q. grind (arith, members))
-
-pub difference_only : (s : BitSet) (b : ℕ) → difference s (only b) ≡ remove s b
-difference_only s b = same_set _ _ (λ q. grind (arith, members))
 
 -- ---- what a test says of a number in sight
 
