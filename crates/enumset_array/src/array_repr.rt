@@ -7,7 +7,8 @@ ghost use Rattle.enumset_repr.specs.Words.{words};
 ghost use Rattle.enumset_repr.specs.Laws.Representations.{by_sets};
 ghost use Rattle.enumset_array.specs.Laws.Asks.{counted, listed};
 ghost use Rattle.enumset_array.specs.Laws.Order.{compare_is};
-ghost use Rattle.enumset_array.specs.Laws.ArrayWords.{set_of_none, within, inverse, width_words, equal};
+ghost use Rattle.enumset_array.specs.Laws.ArrayWords.{set_of_none, within, inverse, represented, is_value};
+ghost use Rattle.enumset_array.specs.Laws.ArrayWords.{width_words, equal};
 
 use crate::array_iter::ArrayIter;
 use crate::lanes;
@@ -205,6 +206,8 @@ impl<const N: usize> EnumSetTypeRepr for ArrayRepr<N> {
       no_member = set_of_none N;
       within = within N;
       inverse = inverse N;
+      represented = represented N;
+      is_value = is_value N;
       word_count = width_words N;
       equal = equal N;
       ordered = compare_is N;
