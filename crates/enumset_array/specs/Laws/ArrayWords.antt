@@ -9,6 +9,7 @@
 --     repr_of_none, set_of_none      the words of the empty set are all 0
 --     none_iff      the set is empty exactly if the test of all words says that each is 0
 --     equal      lists of words are equal exactly if their sets are
+--     same_hash      lists of words that feed a hasher the same data are equal
 --     width_words      there are as many words as the width needs
 use Rattle.std.proofs.Common.{eqb-true, zero, suc, [], ◌∷◌, refl, ◌≡◌, ◌<◌, ◌≤◌, ℕ, ◌+◌, ◌-◌, ◌*◌, ◌/◌, ◌^◌, true, List, length, drop, sym, ap, ◌∙◌, subst, arith, ◌↔◌, lit<, ◌==◌, IsTrue, nat_eq, slice_index, replicate, get_or-take, get_or-drop, length-take, inl, inr}
 use Rattle.std.proofs.lemmas.Bool.{and_parts, and_from, cases_lt}
@@ -16,8 +17,10 @@ use Rattle.std.proofs.lemmas.Bool.Decides.{nat_tests}
 use Rattle.std.proofs.lemmas.Cmp.{nat_list_eq_equiv}
 use Rattle.std.proofs.lemmas.List.{get_or_past, length-replicate, drop-replicate}
 use Rattle.std.specs.Cmp.Lexicographic.{pointwise, same_text}
-use Rattle.std.specs.List.{list_all}
+use Rattle.std.specs.Hash as fed
+use Rattle.std.specs.List.{list_all, flat_map}
 use Rattle.enumset_repr.specs.BitSet.{BitSet, contains, empty, below, is_subset}
+use Rattle.enumset_repr.specs.Laws.Hashes.{same_words}
 use Rattle.enumset_repr.specs.Laws.Members.{same_set, contains_empty, contains_past}
 use Rattle.enumset_repr.specs.Laws.WordLists.{bits_of_within, contains_bits_of, by_word, contains_zero, word_bits_of, words_bits_of, word_empty, word_past, words_fit, length_words, slice_index_words, slice_index_words_past}
 use Rattle.enumset_repr.specs.Laws.Words.{contains_bits_word}
@@ -122,6 +125,12 @@ equal n a b p q = (
   λ same. ap (set_of n) (same_text a b (sym same)),
   λ same. let e : a ≡ b = sym (inverse n a p) ∙ ap (λ s. words s n) same ∙ inverse n b q in subst (λ c. pointwise nat_eq a c ≡ true) e (nat_list_eq_equiv.refl a),
 )
+
+-- the length is fed first, and then each word
+pub same_hash : (n : ℕ) (a b : List ℕ) → IsArrayRepr n a → IsArrayRepr n b → fed.slice fed.u64 a ≡ fed.slice fed.u64 b → a ≡ b
+same_hash n a b p q same =
+    let others : flat_map fed.u64 a ≡ flat_map fed.u64 b = cc in
+    same_words a b (p.long ∙ sym q.long) p.fit q.fit others
 
 pub width_words : (n : ℕ) → in_use n ≡ (64 * in_use n + 63) / 64
 width_words n = omega arith

@@ -1,5 +1,6 @@
 -- An integer as a representation, at every number of bits, and numbers with bits masked out.
 --     by_number      a number represents the set of its bits, if these are below a width
+--     below_power      such a number is below that power of two
 --     integer_operators      `&`, `|`, `^` and `!` of an integer type
 --     word_.., with_word_..      a word, and a number with a word replaced, at a width of up to 64 bits and at 128
 --     masked_tells      `a & !b == 0` as a test of a subset
@@ -38,7 +39,8 @@ by_number width = record {
   ordered = λ a b _ _. compare_bits a b;
 }
 
-below_power : (width n : ℕ) → IsTrue (is_subset (bits n) (below width)) → n < 2 ^ width
+-- a number whose bits are below a width
+pub below_power : (width n : ℕ) → IsTrue (is_subset (bits n) (below width)) → n < 2 ^ width
 below_power width n within = omega (arith, number_bits n, number_within (bits n) width within)
 
 -- the operators of the integer type of a width
