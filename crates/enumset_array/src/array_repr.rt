@@ -7,12 +7,13 @@ ghost use Rattle.enumset_repr.specs.Words.{words};
 ghost use Rattle.enumset_repr.specs.Laws.Representations.{by_sets};
 ghost use Rattle.enumset_array.specs.Laws.Asks.{counted, listed};
 ghost use Rattle.enumset_array.specs.Laws.Order.{compare_is};
-ghost use Rattle.enumset_array.specs.Laws.ArrayWords.{set_of_none, within, inverse, width_words, equal};
+ghost use Rattle.enumset_array.specs.Laws.ArrayWords.{set_of_none, within, inverse, represented, is_value};
+ghost use Rattle.enumset_array.specs.Laws.ArrayWords.{width_words, equal, same_hash};
 
 use crate::array_iter::ArrayIter;
 use crate::lanes;
 use crate::set_operation::{And, AndNot, Or, Xor, apply, apply_changes, yields_none};
-use enumset_repr::EnumSetTypeRepr;
+use enumset_repr::{EnumSetTypeRepr, InjectiveHash};
 use std::marker::Model;
 
 /// There are always fewer words in use than this, so that the width fits a `u32`.
@@ -205,6 +206,8 @@ impl<const N: usize> EnumSetTypeRepr for ArrayRepr<N> {
       no_member = set_of_none N;
       within = within N;
       inverse = inverse N;
+      represented = represented N;
+      is_value = is_value N;
       word_count = width_words N;
       equal = equal N;
       ordered = compare_is N;
@@ -215,4 +218,8 @@ impl<const N: usize> EnumSetTypeRepr for ArrayRepr<N> {
     ghost listed = { listed };
 
     ghost counts = { counted };
+}
+
+impl<const N: usize> InjectiveHash for ArrayRepr<N> {
+    ghost injective = { same_hash N };
 }

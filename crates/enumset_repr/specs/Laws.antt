@@ -24,6 +24,7 @@
 --     BitLists      the set of a number, or of words, whose bits are listed
 --     Representations      the laws of a representation that states its parts as sets and lists, and counts no asks
 --     Integers      an integer as a representation, and numbers with bits masked out
+--     Hashes      what integers and lists of words feed to a hasher
 pub mod Members
 pub mod Model
 pub mod Algebra
@@ -48,3 +49,4 @@ pub mod WordLists
 pub mod BitLists
 pub mod Representations
 pub mod Integers
+pub mod Hashes

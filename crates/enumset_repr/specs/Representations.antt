@@ -1,6 +1,7 @@
 -- Laws of a representation, in three records.
 --     IsRepresentation      the set of each value is below the width, and a value is the one that represents its set.
---         `==` and the order are the same as for the sets, and there are as many words as the width needs
+--         Each set below the width is represented, by a value of the type. `==` and the order are the same as for the
+--         sets, and there are as many words as the width needs
 --     AreSetOperators      `&`, `|`, `^` and `!` may be applied to any values. They are intersection, union, symmetric
 --         difference, and the complement below the width
 --     IsListed      an iterator may step from either end at any time. A step yields the first or the last of the items
@@ -18,6 +19,8 @@ pub record IsRepresentation {S : Type 0} (members : S → BitSet) (of_members : 
   pub no_member : members none ≡ empty
   pub within : (a : S) → IsValue a → IsTrue (is_subset (members a) (below width))
   pub inverse : (a : S) → IsValue a → of_members (members a) ≡ a
+  pub represented : (s : BitSet) → IsTrue (is_subset s (below width)) → members (of_members s) ≡ s
+  pub is_value : (s : BitSet) → IsTrue (is_subset s (below width)) → IsValue (of_members s)
   pub word_count : words ≡ (width + 63) / 64
   pub equal : (a b : S) → IsValue a → IsValue b → IsTrue (eq a b) ↔ (members a ≡ members b)
   pub ordered : (a b : S) → IsValue a → IsValue b → cmp a b ≡ compare (members a) (members b)

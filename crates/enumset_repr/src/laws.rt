@@ -5,7 +5,7 @@ ghost use Rattle.std.specs.Cmp.{IsTotalOrder};
 ghost use Rattle.std.specs.Ordering.{nat_cmp};
 ghost use Rattle.std.specs.declared.cmp.Ordering.TheVariants.{Less, Equal};
 ghost use Rattle.enumset_repr.specs.BitSet as set;
-ghost use Rattle.enumset_repr.specs.BitSet.{BitSet, is_in, contains, ascending, is_subset, difference};
+ghost use Rattle.enumset_repr.specs.BitSet.{BitSet, is_in, contains, ascending, is_subset, difference, below};
 ghost use Rattle.enumset_repr.specs.Number.{number};
 ghost use Rattle.enumset_repr.specs.Order.{compare};
 
@@ -58,4 +58,15 @@ pub fn order()
     ensures turned { (u s t : BitSet) → IsTrue (is_subset s u) → IsTrue (is_subset t u)
         → compare (difference u s) (difference u t) ≡ compare t s }
     ensures number { (s t : BitSet) → compare s t ≡ nat_cmp (number s) (number t) }
+{}
+
+/// Tells the proof that each set below the widths of two representations is represented in both: `of_members` of the set
+/// is a value of its type, and the set of this value is the set. So a set may move from one representation to the other.
+///
+/// It does nothing at run time.
+pub fn represented_in_both<R: EnumSetTypeRepr, S: EnumSetTypeRepr>()
+    ensures first { (s : BitSet) → IsTrue (is_subset s (below R.WIDTH))
+        → R.is_value (R.of_members s) × (R.members (R.of_members s) ≡ s) }
+    ensures second { (s : BitSet) → IsTrue (is_subset s (below S.WIDTH))
+        → S.is_value (S.of_members s) × (S.members (S.of_members s) ≡ s) }
 {}

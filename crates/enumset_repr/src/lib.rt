@@ -7,6 +7,7 @@
 //! - [`primitive`] and [`primitive_iter`]: an integer as the set of its bits, and the iterator over them, from both
 //!   ends.
 //! - [`integers`]: `u8`, `u16`, `u32`, `u64` and `u128` as representations.
+//! - [`injective_hash`]: the trait [`InjectiveHash`] of representations whose values a hasher can tell apart.
 //! - [`comparisons`]: whether two values represent one set, and how they compare.
 //! - [`laws`]: laws that a proof learns from a call.
 //! - [`asks`]: a count of asks (counted reads of a word) that takes no bytes.
@@ -21,6 +22,7 @@ pub mod asks;
 pub mod comparisons;
 pub mod ends;
 mod halves;
+pub mod injective_hash;
 pub mod integers;
 pub mod laws;
 pub mod primitive;
@@ -31,6 +33,7 @@ pub use arrays::{from_u64_array, to_u64_array, try_from_u64_array, try_to_u64_ar
 pub use asks::Asks;
 pub use comparisons::{are_same, order_of};
 pub use ends::{greatest_bit, least_bit, least_bit_from};
+pub use injective_hash::InjectiveHash;
 pub use primitive::Primitive;
 pub use primitive_iter::PrimitiveIter;
 pub use repr::EnumSetTypeRepr;

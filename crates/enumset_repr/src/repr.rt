@@ -16,7 +16,15 @@ use std::ops::{BitAnd, BitOr, BitXor, Not};
 /// A representation. Each of its values represents a set of bit numbers below [`WIDTH`](EnumSetTypeRepr::WIDTH).
 ///
 /// A type that implements the trait says which set each value represents, and proves that each call is that set's
-/// operation. So contracts of code over a representation are about sets alone.
+/// operation. So contracts of code over a representation are about sets alone. The items come in this order:
+///
+/// 1. Ghost members, which say which set a value represents, and which value represents a set; the constants; the
+///    iterator, with what it has left.
+/// 2. The eight calls that a representation writes, from `is_empty` to `put_word`.
+/// 3. The calls with a default body, which it may replace.
+/// 4. The four laws, which it proves. `represents` relates values and sets one to one.
+/// 5. The 28 conversions to and from slices of words and numbers, which no representation writes. They are `final`: each
+///    is proved once, over the calls above.
 ///
 /// The trait mirrors `EnumSetTypeRepr` of Rust's `enumset`, and its calls keep their names. These have no counterpart
 /// there: `or_with`, `and_with`, `xor_with`, `and_not_with`, `is_subset_of`, `is_disjoint_from`, `or_changes`,
@@ -36,6 +44,8 @@ pub trait EnumSetTypeRepr: Copy
     + BitOr<Output = Self>
     + BitXor<Output = Self>
     + Not<Output = Self> {
+    // ---- what each value represents
+
     // The set that a value represents.
     ghost members: { Self → BitSet };
 
@@ -44,6 +54,8 @@ pub trait EnumSetTypeRepr: Copy
 
     // Holds for the values of the type. A variable of a clause ranges over more: at `u8`, over every number.
     ghost is_value: { Self → Type 0 };
+
+    // ---- the constants
 
     ghost PREFERRED_ARRAY_LEN: { ℕ };
 
@@ -59,6 +71,8 @@ pub trait EnumSetTypeRepr: Copy
 
     /// The empty set.
     const EMPTY: Self;
+
+    // ---- the iterator
 
     /// An iterator over the members, each once, ascending, from both ends.
     type Iter: Iterator<Item = u32>
@@ -77,20 +91,12 @@ pub trait EnumSetTypeRepr: Copy
     // How many asks an iterator may still need beyond one for each item.
     ghost span: { Self.Iter → ℕ } = { λ _. 0 };
 
+    // ---- the calls that a representation writes
+
     /// Returns whether the set is empty. A proof also learns that the value is one of its type.
     fn is_empty(&self) -> bool
         ensures empty { result ≡ set.is_empty (members self.now) }
         ensures value { is_value self.now };
-
-    /// Tells the proof that the value is one of its type, and changes nothing.
-    ///
-    /// The default body asks whether the set is empty. A representation of many words should have its own, which reads
-    /// no word.
-    fn learn_is_value(self)
-        ensures { is_value self }
-    {
-        let _ = self.is_empty();
-    }
 
     /// Returns the number of members.
     fn count_ones(&self) -> u32
@@ -112,6 +118,36 @@ pub trait EnumSetTypeRepr: Copy
     fn has_bit(&self, bit: u32) -> bool
         requires { bit < WIDTH }
         ensures { result ≡ set.contains (members self.now) bit };
+
+    /// Returns an iterator over the members, ascending.
+    fn iter(self) -> Self::Iter
+        ensures rest { rest result ≡ set.ascending (members self) }
+        ensures asks { asks result ≡ 0 }
+        ensures span { span result ≤ PREFERRED_ARRAY_LEN };
+
+    /// Returns the word of 64 bits at place `i`: the bits from `64 * i` to `64 * i + 63`. The place must be below
+    /// [`PREFERRED_ARRAY_LEN`](EnumSetTypeRepr::PREFERRED_ARRAY_LEN).
+    fn word(&self, i: usize) -> u64
+        requires { i < PREFERRED_ARRAY_LEN }
+        ensures { result ≡ word_of (members self.now) i };
+
+    /// Replaces the word at place `i` by `w`, and drops the bits of `w` that would be at or past the width. The place
+    /// must be below [`PREFERRED_ARRAY_LEN`](EnumSetTypeRepr::PREFERRED_ARRAY_LEN).
+    fn put_word(&mut self, i: usize, w: u64)
+        requires { i < PREFERRED_ARRAY_LEN }
+        ensures { members self.new ≡ with_word (members self.old) WIDTH i w };
+
+    // ---- the calls with a default body, which a representation may replace
+
+    /// Tells the proof that the value is one of its type, and changes nothing.
+    ///
+    /// The default body asks whether the set is empty. A representation of many words should have its own, which reads
+    /// no word.
+    fn learn_is_value(self)
+        ensures { is_value self }
+    {
+        let _ = self.is_empty();
+    }
 
     /// Returns the members that are not in `other`.
     fn and_not(&self, other: Self) -> Self
@@ -208,12 +244,6 @@ pub trait EnumSetTypeRepr: Copy
         !keeps_all
     }
 
-    /// Returns an iterator over the members, ascending.
-    fn iter(self) -> Self::Iter
-        ensures rest { rest result ≡ set.ascending (members self) }
-        ensures asks { asks result ≡ 0 }
-        ensures span { span result ≤ PREFERRED_ARRAY_LEN };
-
     /// Returns the number of items that an iterator has left. Code over any representation calls it instead of
     /// `size_hint`.
     fn items_left(iter: &Self::Iter) -> usize
@@ -234,17 +264,33 @@ pub trait EnumSetTypeRepr: Copy
         }
     }
 
-    /// Returns the word of 64 bits at place `i`: the bits from `64 * i` to `64 * i + 63`. The place must be below
-    /// [`PREFERRED_ARRAY_LEN`](EnumSetTypeRepr::PREFERRED_ARRAY_LEN).
-    fn word(&self, i: usize) -> u64
-        requires { i < PREFERRED_ARRAY_LEN }
-        ensures { result ≡ word_of (members self.now) i };
+    // ---- the laws that a representation proves
 
-    /// Replaces the word at place `i` by `w`, and drops the bits of `w` that would be at or past the width. The place
-    /// must be below [`PREFERRED_ARRAY_LEN`](EnumSetTypeRepr::PREFERRED_ARRAY_LEN).
-    fn put_word(&mut self, i: usize, w: u64)
-        requires { i < PREFERRED_ARRAY_LEN }
-        ensures { members self.new ≡ with_word (members self.old) WIDTH i w };
+    // The set of each value is below the width, and a value is the one that represents its set. So no two values
+    // represent the same set. Each set below the width is represented by a value of the type. Values are equal, and
+    // compare, as their sets do.
+    ghost represents: { IsRepresentation members of_members is_value EMPTY WIDTH PREFERRED_ARRAY_LEN
+        Self.PartialEq.eq Self.Ord.cmp };
+
+    // `&`, `|`, `^` and `!` may be applied to any values, and are the operations on sets.
+    ghost operators: { AreSetOperators members is_value WIDTH Self.BitAnd.can_bitand
+        Self.BitOr.can_bitor Self.BitXor.can_bitxor Self.Not.can_not Self.BitAnd.bitand_gives
+        Self.BitOr.bitor_gives Self.BitXor.bitxor_gives Self.Not.not_gives };
+
+    // An iterator may step from either end at any time. A step yields the first or the last of the items left.
+    ghost listed: { IsListed rest Self.Iter.Iterator.can_next
+        Self.Iter.DoubleEndedIterator.can_next_back Self.Iter.Iterator.next_gives
+        Self.Iter.DoubleEndedIterator.next_back_gives Self.Iter.Clone.is_infallible
+        Self.Iter.Clone.is_clone Self.Iter.Iterator.remaining };
+
+    // A step raises the sum of asks and span by at most one if it yields an item, and not at all otherwise. A clone has
+    // the same asks and span.
+    ghost counts: { IsCounted asks span Self.Iter.Iterator.next_gives
+        Self.Iter.DoubleEndedIterator.next_back_gives Self.Iter.Clone.is_clone };
+
+    // ==== the conversions, which no representation writes: each is proved once, over the calls above
+
+    // ---- slices of words
 
     /// Writes the words of the set to a slice, the lowest first, and 0 past the last word of the representation.
     /// Members at or past 64 times the length of the slice are left out.
@@ -506,27 +552,6 @@ pub trait EnumSetTypeRepr: Copy
     {
         Some(self.try_to_u64()? as usize)
     }
-
-    // The set of each value is below the width, and a value is the one that represents its set. So no two values
-    // represent the same set. Values are equal, and compare, as their sets do.
-    ghost represents: { IsRepresentation members of_members is_value EMPTY WIDTH PREFERRED_ARRAY_LEN
-        Self.PartialEq.eq Self.Ord.cmp };
-
-    // `&`, `|`, `^` and `!` may be applied to any values, and are the operations on sets.
-    ghost operators: { AreSetOperators members is_value WIDTH Self.BitAnd.can_bitand
-        Self.BitOr.can_bitor Self.BitXor.can_bitxor Self.Not.can_not Self.BitAnd.bitand_gives
-        Self.BitOr.bitor_gives Self.BitXor.bitxor_gives Self.Not.not_gives };
-
-    // An iterator may step from either end at any time. A step yields the first or the last of the items left.
-    ghost listed: { IsListed rest Self.Iter.Iterator.can_next
-        Self.Iter.DoubleEndedIterator.can_next_back Self.Iter.Iterator.next_gives
-        Self.Iter.DoubleEndedIterator.next_back_gives Self.Iter.Clone.is_infallible
-        Self.Iter.Clone.is_clone Self.Iter.Iterator.remaining };
-
-    // A step raises the sum of asks and span by at most one if it yields an item, and not at all otherwise. A clone has
-    // the same asks and span.
-    ghost counts: { IsCounted asks span Self.Iter.Iterator.next_gives
-        Self.Iter.DoubleEndedIterator.next_back_gives Self.Iter.Clone.is_clone };
 }
 
 /// Returns the word of 64 bits at any place of a set, or 0 past the last word of the representation.

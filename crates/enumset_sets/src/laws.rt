@@ -1,16 +1,36 @@
 //! Laws of members, and of round trips: what one call writes for a set, another call reads back as the same set.
 //!
-//! Each law is a function that does nothing at run time, over every element type. Code that needs a law calls it with
-//! its set, and the proof of that code then knows what the function ensures. Rust's `enumset` has no laws.
+//! Each law is a function over every element type, which does nothing at run time, except [`bits_have_values`]. Code that
+//! needs a law calls it, and the proof of that code then knows what the function ensures. Rust's `enumset` has no laws.
 
-ghost use Rattle.std.specs.Prelude.{◌≡◌, ◌<◌, ◌*◌, ◌^◌, ℕ, IsTrue};
-ghost use Rattle.enumset_repr.specs.BitSet.{is_in, contains, below, low, intersection, is_subset, len};
+ghost use Rattle.std.specs.Prelude.{◌≡◌, ◌<◌, ◌*◌, ◌^◌, ◌↔◌, ℕ, Bool, IsTrue};
+ghost use Rattle.enumset_repr.specs.BitSet.{BitSet, is_in, contains, below, low, intersection, is_subset, len};
 ghost use Rattle.enumset_repr.specs.Number.{bits, number};
 ghost use Rattle.enumset_repr.specs.Words.{words, bits_of};
 ghost use Rattle.enumset_sets.specs.Elements.{valid_bits};
 
 use crate::element::EnumSetType;
 use crate::enum_set::EnumSet;
+use crate::raw::learn_valid_bits;
+use enumset_repr::InjectiveHash;
+use std::hash::Hash;
+
+/// Each valid bit is the bit of a value. So of any set, a test of bits passes for some member exactly if it passes for
+/// the bit of some element of the set, and for all members exactly if for the bits of all its elements.
+///
+/// At run time the call makes each value once, from its bit.
+pub fn bits_have_values<T: EnumSetType>()
+    ensures value { (bit : ℕ) → IsTrue (is_in bit T.elements.bit_list)
+        → (value : T) × (T.elements.bit value ≡ bit) }
+    ensures some { (set : BitSet) (test : ℕ → Bool) → IsTrue (is_subset set (valid_bits T.elements))
+        → ((bit : ℕ) × IsTrue (contains set bit) × IsTrue (test bit))
+        ↔ ((value : T) × IsTrue (contains set (T.elements.bit value)) × IsTrue (test (T.elements.bit value))) }
+    ensures all { (set : BitSet) (test : ℕ → Bool) → IsTrue (is_subset set (valid_bits T.elements))
+        → ((bit : ℕ) → IsTrue (contains set bit) → IsTrue (test bit))
+        ↔ ((value : T) → IsTrue (contains set (T.elements.bit value)) → IsTrue (test (T.elements.bit value))) }
+{
+    for _value in EnumSet::<T>::all() {}
+}
 
 /// Each member of a set is a valid bit, and so one of the list of the element type and below the width of the
 /// representation. So a set has fewer than 2³² members.
@@ -71,4 +91,16 @@ pub fn all_words_and_back<T: EnumSetType>(set: &EnumSet<T>)
     ensures valid { IsTrue (is_subset set.now (valid_bits T.elements)) }
 {
     set.learn_members();
+}
+
+/// Sets that feed a hasher the same data are equal, so sets that differ feed different data. This holds over each
+/// representation that is [`InjectiveHash`], as all of this library are.
+pub fn hash_is_injective<T: EnumSetType>()
+where
+    T::Repr: InjectiveHash,
+    ensures { (s t : BitSet) → IsTrue (is_subset s (valid_bits T.elements))
+        → IsTrue (is_subset t (valid_bits T.elements))
+        → ⟦<EnumSet<T> as Hash>⟧.hash_input s ≡ ⟦<EnumSet<T> as Hash>⟧.hash_input t → s ≡ t }
+{
+    learn_valid_bits::<T>();
 }

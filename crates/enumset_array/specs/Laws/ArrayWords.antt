@@ -5,19 +5,25 @@
 --     set_is      the set, by the bits of each word
 --     word_is, inverse      the words of the set are the words of the `ArrayRepr`
 --     within      each member is below 64 times the number of words in use
+--     represented, is_value      the words of a set below that bound represent it;  they are an `ArrayRepr`
 --     repr_of_none, set_of_none      the words of the empty set are all 0
 --     none_iff      the set is empty exactly if the test of all words says that each is 0
 --     equal      lists of words are equal exactly if their sets are
+--     same_hash      lists of words that feed a hasher the same data are equal
 --     width_words      there are as many words as the width needs
-use Rattle.std.proofs.Common.{eqb-true, zero, suc, [], ◌∷◌, refl, ◌≡◌, ◌<◌, ◌≤◌, ℕ, ◌+◌, ◌-◌, ◌*◌, ◌/◌, ◌^◌, true, List, length, drop, sym, ap, ◌∙◌, subst, arith, ◌↔◌, lit<, ◌==◌, IsTrue, nat_eq, slice_index, replicate, get_or-take, get_or-drop, length-take}
-use Rattle.std.proofs.lemmas.Bool.{and_parts, and_from}
+use Rattle.std.proofs.Common.{eqb-true, zero, suc, [], ◌∷◌, refl, ◌≡◌, ◌<◌, ◌≤◌, ℕ, ◌+◌, ◌-◌, ◌*◌, ◌/◌, ◌^◌, true, List, length, drop, sym, ap, ◌∙◌, subst, arith, ◌↔◌, lit<, ◌==◌, IsTrue, nat_eq, slice_index, replicate, get_or-take, get_or-drop, length-take, inl, inr}
+use Rattle.std.proofs.lemmas.Bool.{and_parts, and_from, cases_lt}
+use Rattle.std.proofs.lemmas.Bool.Decides.{nat_tests}
 use Rattle.std.proofs.lemmas.Cmp.{nat_list_eq_equiv}
 use Rattle.std.proofs.lemmas.List.{get_or_past, length-replicate, drop-replicate}
 use Rattle.std.specs.Cmp.Lexicographic.{pointwise, same_text}
-use Rattle.std.specs.List.{list_all}
+use Rattle.std.specs.Hash as fed
+use Rattle.std.specs.List.{list_all, flat_map}
 use Rattle.enumset_repr.specs.BitSet.{BitSet, contains, empty, below, is_subset}
-use Rattle.enumset_repr.specs.Laws.Members.{same_set, contains_empty}
-use Rattle.enumset_repr.specs.Laws.WordLists.{bits_of_within, contains_bits_of, by_word, contains_zero, word_bits_of, words_bits_of, word_empty}
+use Rattle.enumset_repr.specs.Laws.Hashes.{same_words}
+use Rattle.enumset_repr.specs.Laws.Members.{same_set, contains_empty, contains_past}
+use Rattle.enumset_repr.specs.Laws.WordLists.{bits_of_within, contains_bits_of, by_word, contains_zero, word_bits_of, words_bits_of, word_empty, word_past, words_fit, length_words, slice_index_words, slice_index_words_past}
+use Rattle.enumset_repr.specs.Laws.Words.{contains_bits_word}
 use Rattle.enumset_repr.specs.Number.{bits}
 use Rattle.enumset_repr.specs.Words.{word, words}
 use Rattle.enumset_array.specs.ArrayWords.{in_use, words_in_use, set_of, is_empty_past, IsArrayRepr}
@@ -78,6 +84,22 @@ within n ws is_repr =
     let long : length (words_in_use n ws) ≡ in_use n = omega (arith, length-take (in_use n) ws, is_repr.long) in
     subst (λ m. IsTrue (is_subset (set_of n ws) (below (64 * m)))) long (bits_of_within (words_in_use n ws) (used_fit n ws is_repr))
 
+-- the words of a set below the width
+words_past : (n : ℕ) (s : BitSet) (w : ℕ) → IsTrue (is_subset s (below (64 * in_use n))) → in_use n ≤ w → slice_index (words s n) w ≡ 0
+words_past n s w within from = elim (cases_lt w n) [
+  | inl under ↦ slice_index_words s n w under ∙ word_past s (64 * in_use n) w within (omega (arith, from))
+  | inr past ↦ slice_index_words_past s n w past
+]
+
+pub is_value : (n : ℕ) (s : BitSet) → IsTrue (is_subset s (below (64 * in_use n))) → IsArrayRepr n (words s n)
+is_value n s within = record { long = length_words s n; fit = words_fit s n; past = empty_past n (words s n) (λ w from. words_past n s w within from) }
+
+pub represented : (n : ℕ) (s : BitSet) → IsTrue (is_subset s (below (64 * in_use n))) → set_of n (words s n) ≡ s
+represented n s within = set_is n (words s n) s (is_value n s within) (λ w b small. elim (cases_lt w (in_use n)) [
+  | inl under ↦ ap (λ x. contains (bits x) b) (slice_index_words s n w (omega (arith, under))) ∙ contains_bits_word s w b ∙ grind (arith, nat_tests)
+  | inr past ↦ contains_zero _ b (words_past n s w within past) ∙ sym (contains_past s (64 * in_use n) (64 * w + b) within (omega (arith, past)))
+])
+
 -- ---- no bits
 
 pub repr_of_none : (n : ℕ) → IsArrayRepr n (replicate n 0)
@@ -103,6 +125,12 @@ equal n a b p q = (
   λ same. ap (set_of n) (same_text a b (sym same)),
   λ same. let e : a ≡ b = sym (inverse n a p) ∙ ap (λ s. words s n) same ∙ inverse n b q in subst (λ c. pointwise nat_eq a c ≡ true) e (nat_list_eq_equiv.refl a),
 )
+
+-- the length is fed first, and then each word
+pub same_hash : (n : ℕ) (a b : List ℕ) → IsArrayRepr n a → IsArrayRepr n b → fed.slice fed.u64 a ≡ fed.slice fed.u64 b → a ≡ b
+same_hash n a b p q same =
+    let others : flat_map fed.u64 a ≡ flat_map fed.u64 b = cc in
+    same_words a b (p.long ∙ sym q.long) p.fit q.fit others
 
 pub width_words : (n : ℕ) → in_use n ≡ (64 * in_use n + 63) / 64
 width_words n = omega arith

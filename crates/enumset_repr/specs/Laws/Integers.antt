@@ -1,5 +1,6 @@
 -- An integer as a representation, at every number of bits, and numbers with bits masked out.
 --     by_number      a number represents the set of its bits, if these are below a width
+--     below_power      such a number is below that power of two
 --     integer_operators      `&`, `|`, `^` and `!` of an integer type
 --     word_.., with_word_..      a word, and a number with a word replaced, at a width of up to 64 bits and at 128
 --     masked_tells      `a & !b == 0` as a test of a subset
@@ -30,12 +31,15 @@ by_number width = record {
   no_member = bits_zero;
   within = λ _ is. is;
   inverse = λ a _. number_bits a;
+  represented = λ s _. bits_number s;
+  is_value = λ s within. subst (λ t. IsTrue (is_subset t (below width))) (sym (bits_number s)) within;
   word_count = refl;
   equal = λ a b _ _. (λ same. ap bits (eqb-true a b same), λ same. eq-eqb a b (sym (number_bits a) ∙ ap number same ∙ number_bits b));
   ordered = λ a b _ _. compare_bits a b;
 }
 
-below_power : (width n : ℕ) → IsTrue (is_subset (bits n) (below width)) → n < 2 ^ width
+-- a number whose bits are below a width
+pub below_power : (width n : ℕ) → IsTrue (is_subset (bits n) (below width)) → n < 2 ^ width
 below_power width n within = omega (arith, number_bits n, number_within (bits n) width within)
 
 -- the operators of the integer type of a width

@@ -3,13 +3,13 @@
 --     ascends_at      the list of the members ascends: an earlier number is less than a later one
 -- The ruleset `equations` has this, what `contains` returns for each set, that sets with the same members are equal, that a
 -- set is the set of its list, and that it has as many members as its list.
-use Rattle.std.proofs.Common.{◌≡◌, ◌<◌, ℕ, suc, zero, true, List, [], ◌∷◌, length, sym, ◌∙◌, arith, slice_index}
+use Rattle.std.proofs.Common.{◌≡◌, ◌<◌, ℕ, suc, zero, true, List, [], ◌∷◌, length, arith, slice_index}
 use Rattle.std.proofs.lemmas.Bool.{or_right}
 use Rattle.std.proofs.lemmas.Bool.Decides.{nat_tests}
-use Rattle.enumset_repr.specs.BitSet.{BitSet, is_in, ascending, from_list}
+use Rattle.enumset_repr.specs.BitSet.{BitSet, is_in, ascending}
 use Rattle.enumset_repr.specs.Laws.Algebra.{from_list_ascending}
 use Rattle.enumset_repr.specs.Laws.Ascending.{AscendsFrom, ascending_ascends, is_in_from, len_ascending}
-use Rattle.enumset_repr.specs.Laws.Members.{same_set, contains_empty, contains_insert, contains_remove, contains_retain, contains_from_list, contains_union, contains_intersection, contains_difference, contains_symmetric_difference, contains_below, contains_low, contains_ascending}
+use Rattle.enumset_repr.specs.Laws.Members.{same_set, contains_empty, contains_insert, contains_remove, contains_retain, contains_from_list, contains_union, contains_intersection, contains_difference, contains_symmetric_difference, contains_below, contains_low}
 
 -- the number at a place of a list is in the list
 is_in_at : (xs : List ℕ) (i : ℕ) → i < length xs → is_in (slice_index xs i) xs ≡ true

@@ -112,7 +112,7 @@ slice_index_words_past s n i past = get_or_past (words s n) i 0 (omega (arith, p
 pub word_small : (s : BitSet) (w : ℕ) → word s w < 2 ^ 64
 word_small s w = subst (λ n. n < 2 ^ 64) (number_bits (word s w)) (number_within (bits (word s w)) 64 (contains_is_subset _ _ (λ b one. let cut = contains_bits_word s w b in grind (arith, contains_below 64 b))))
 
-words_fit : (s : BitSet) (n i : ℕ) → slice_index (words s n) i < 2 ^ 64
+pub words_fit : (s : BitSet) (n i : ℕ) → slice_index (words s n) i < 2 ^ 64
 words_fit s n i = elim (cases_lt i n) [
   | inl under ↦ subst (λ x. x < 2 ^ 64) (sym (slice_index_words s n i under)) (word_small s i)
   | inr past ↦ omega (arith, slice_index_words_past s n i past)

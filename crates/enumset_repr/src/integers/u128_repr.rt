@@ -1,12 +1,14 @@
 //! `u128` as a representation of 128 bits.
 
-ghost use Rattle.std.specs.Prelude.{IsTrue};
+ghost use Rattle.std.specs.Prelude.{IsTrue, refl};
 ghost use Rattle.std.specs.Int.{w128};
 ghost use Rattle.enumset_repr.specs.BitSet as set;
 ghost use Rattle.enumset_repr.specs.Number.{bits, number};
+ghost use Rattle.enumset_repr.specs.Laws.Hashes.{integer_hash};
 ghost use Rattle.enumset_repr.specs.Laws.Integers.{by_number, integer_operators};
 ghost use Rattle.enumset_repr.specs.Laws.Representations.{by_list, no_asks};
 
+use crate::injective_hash::InjectiveHash;
 use crate::primitive::Primitive;
 use crate::primitive_iter::PrimitiveIter;
 use crate::repr::EnumSetTypeRepr;
@@ -108,4 +110,8 @@ impl EnumSetTypeRepr for u128 {
     ghost listed = { by_list };
 
     ghost counts = { no_asks };
+}
+
+impl InjectiveHash for u128 {
+    ghost injective = { integer_hash 16 128 refl };
 }

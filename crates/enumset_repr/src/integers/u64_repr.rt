@@ -1,12 +1,14 @@
 //! `u64` as a representation of 64 bits.
 
-ghost use Rattle.std.specs.Prelude.{IsTrue};
+ghost use Rattle.std.specs.Prelude.{IsTrue, refl};
 ghost use Rattle.std.specs.Int.{w64};
 ghost use Rattle.enumset_repr.specs.BitSet as set;
 ghost use Rattle.enumset_repr.specs.Number.{bits, number};
+ghost use Rattle.enumset_repr.specs.Laws.Hashes.{integer_hash};
 ghost use Rattle.enumset_repr.specs.Laws.Integers.{by_number, integer_operators};
 ghost use Rattle.enumset_repr.specs.Laws.Representations.{by_list, no_asks};
 
+use crate::injective_hash::InjectiveHash;
 use crate::primitive::Primitive;
 use crate::primitive_iter::PrimitiveIter;
 use crate::repr::EnumSetTypeRepr;
@@ -109,4 +111,8 @@ impl EnumSetTypeRepr for u64 {
     ghost listed = { by_list };
 
     ghost counts = { no_asks };
+}
+
+impl InjectiveHash for u64 {
+    ghost injective = { integer_hash 8 64 refl };
 }

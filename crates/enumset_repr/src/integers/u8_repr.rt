@@ -4,9 +4,11 @@ ghost use Rattle.std.specs.Prelude.{IsTrue};
 ghost use Rattle.std.specs.Int.{w8};
 ghost use Rattle.enumset_repr.specs.BitSet as set;
 ghost use Rattle.enumset_repr.specs.Number.{bits, number};
+ghost use Rattle.enumset_repr.specs.Laws.Hashes.{byte_hash};
 ghost use Rattle.enumset_repr.specs.Laws.Integers.{by_number, integer_operators};
 ghost use Rattle.enumset_repr.specs.Laws.Representations.{by_list, no_asks};
 
+use crate::injective_hash::InjectiveHash;
 use crate::primitive::Primitive;
 use crate::primitive_iter::PrimitiveIter;
 use crate::repr::EnumSetTypeRepr;
@@ -109,4 +111,8 @@ impl EnumSetTypeRepr for u8 {
     ghost listed = { by_list };
 
     ghost counts = { no_asks };
+}
+
+impl InjectiveHash for u8 {
+    ghost injective = { λ a b _ _. byte_hash a b };
 }

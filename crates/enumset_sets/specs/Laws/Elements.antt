@@ -5,11 +5,14 @@
 --     is_valid_bit      a bit is valid exactly if the list has it
 --     place_is, listed_bit_is      what the bit of a variant is
 --     place_is_valid, listed_bit_is_valid      the bit of a variant is valid
+--     has_value      each number of the list of some values' bits is the bit of a value
+--     some_member, all_members      a test passes for some member of a set, or for all, exactly if it does for the bits of
+--         its elements
 --     passed      what is known if a test passes
 --     derived_eq      what a derived `==` of such an enum returns
 -- The ruleset `bits_of_variants` says what the bit of each variant is, and that it is valid. It proves the functions of
 -- an element type.
-use Rattle.std.proofs.Common.{◌≡◌, ◌<◌, ◌≤◌, ℕ, suc, zero, slice_index, ◌^◌, Bool, true, false, eqb, List, Some, sym, ap, ◌∙◌, length, get_or, sum_by, arith, inl, inr, ◌==◌, max, Option, None, eqb-true, eq-eqb, [], ◌∷◌, refl}
+use Rattle.std.proofs.Common.{◌≡◌, ◌<◌, ◌≤◌, ℕ, suc, zero, slice_index, ◌^◌, Bool, true, false, eqb, List, Some, sym, ap, ◌∙◌, length, get_or, sum_by, arith, inl, inr, ◌==◌, max, Option, None, eqb-true, eq-eqb, [], ◌∷◌, refl, ◌||◌, ◌↔◌, IsTrue, map, subst, true≢false}
 use Rattle.std.proofs.lemmas.Bool.{cases_lt, and_parts, and_from, or_left, or_right}
 use Rattle.std.proofs.lemmas.Bool.Decides.{nat_tests}
 use Rattle.std.proofs.lemmas.List.FromFn.{length-range_with_len, get_or-range_with_len}
@@ -213,3 +216,31 @@ pub ruleset bits_of_variants = (place_is, listed_bit_is, place_is_valid, listed_
 pub AreBitsOf-ascending : (bs : List ℕ) (all s : BitSet) → all ≡ from_list bs → is_subset s all ≡ true → AreBitsOf (ascending s) bs
 AreBitsOf-ascending bs all s valid sub =
     list_all_each (λ b. is_in b bs) (ascending s) (λ q one. sym (contains_from_list bs q) ∙ sym (ap (λ t. contains t q) valid) ∙ is_subset_contains s all sub q (contains_ascending s q ∙ one))
+
+-- ---- members and elements
+
+pub has_value : {T : Type 0} (bit : T → ℕ) (vs : List T) (b : ℕ) → is_in b (map bit vs) ≡ true → (v : T) × (bit v ≡ b)
+has_value bit [] b one = absurd (true≢false (sym one))
+has_value {T} bit (v ∷ vs) b one = elim (b == bit v) as (λ t. (b == bit v) ≡ t → (t || is_in b (map bit vs)) ≡ true → (w : T) × (bit w ≡ b)) [
+  | true ↦ λ same _. (v, sym (eqb-true b (bit v) same))
+  | false ↦ λ _ later. has_value bit vs b later
+] refl one
+
+-- each bit of the list is some value's
+abbrev pub HasValues : {T : Type 0} → Elements T → Type 0
+HasValues {T} elements = (b : ℕ) → IsTrue (is_in b elements.bit_list) → (v : T) × (elements.bit v ≡ b)
+
+value_of : {T : Type 0} (elements : Elements T) → HasValues elements → (s : BitSet) → is_subset s (valid_bits elements) ≡ true → (b : ℕ) → contains s b ≡ true → (v : T) × (elements.bit v ≡ b)
+value_of elements values s valid b one = values b (sym (is_valid_bit elements b) ∙ is_subset_contains s _ valid b one)
+
+pub some_member : {T : Type 0} (elements : Elements T) → HasValues elements → (s : BitSet) (p : ℕ → Bool) → IsTrue (is_subset s (valid_bits elements)) → ((b : ℕ) × IsTrue (contains s b) × IsTrue (p b)) ↔ ((v : T) × IsTrue (contains s (elements.bit v)) × IsTrue (p (elements.bit v)))
+some_member elements values s p valid = (
+  λ some. let at = value_of elements values s valid some.0 some.1 in (at.0, subst (λ b. contains s b ≡ true) (sym at.1) some.1, subst (λ b. p b ≡ true) (sym at.1) some.2),
+  λ some. (elements.bit some.0, some.1, some.2),
+)
+
+pub all_members : {T : Type 0} (elements : Elements T) → HasValues elements → (s : BitSet) (p : ℕ → Bool) → IsTrue (is_subset s (valid_bits elements)) → ((b : ℕ) → IsTrue (contains s b) → IsTrue (p b)) ↔ ((v : T) → IsTrue (contains s (elements.bit v)) → IsTrue (p (elements.bit v)))
+all_members elements values s p valid = (
+  λ all v one. all (elements.bit v) one,
+  λ all b one. let at = value_of elements values s valid b one in subst (λ c. p c ≡ true) at.1 (all at.0 (subst (λ c. contains s c ≡ true) (sym at.1) one)),
+)
