@@ -30,8 +30,8 @@ without_answers xs (e ∷ es) = without_answers (without_answer e xs) es
 unfoldable pub items_among : List (Option ℕ) → List ℕ
 items_among rs = filter_map (λ r. r) rs
 
--- steps over some words with these items, before which there were `asks` asks: their answers are `rs`, and they leave the
--- items `left`, after `new_asks` asks
+-- the steps find these items in some words, after so many asks; their answers are rs, and they leave the items in left,
+-- after new_asks asks
 pub record IsWalk (items : List ℕ) (asks words : ℕ) (ends : List End) (rs : List (Option ℕ)) (left : List ℕ) (new_asks : ℕ) : Type 0 where
   pub yields : rs ≡ answers items ends
   pub leaves : left ≡ without_answers items ends

@@ -37,8 +37,8 @@ fn step<R: Row>(row: &mut R, cursors: &mut Cursors, end: End) -> Option<u32>
     }
 }
 
-/// Takes one step from each of `ends`, in that order, and writes an answer for each: the least or the greatest bit of the
-/// row, which the step takes out, or `None` if the row has no bit. The lists must have the same length.
+/// Takes one step from each of `ends`, in that order, and writes an answer for each: the least or the greatest bit of
+/// the row, which the step takes out, or `None` if the row has no bit. The lists must have the same length.
 ///
 /// All steps use one pair of cursors, which starts over the whole row. However long `ends` is, the number of asks that
 /// the call makes is at most the number of bits that it found plus the number of words of the row. If an answer is
