@@ -29,7 +29,7 @@ mod readers;
 
 use crate::names::EnumSetNames;
 use crate::set_json::{JsonWidth, Unknown};
-pub use asks::{asks_of_mixed_steps, asks_of_steps, take_mixed_steps, take_steps};
+pub use asks::{walk_iter, walk_mixed_iter, walk_mixed_set, walk_set};
 pub use complementary::complements;
 pub use elements::{bit_and_back, bits_below, valid_bits_listed};
 pub use ends::both_ends;

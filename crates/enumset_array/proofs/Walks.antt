@@ -1,5 +1,5 @@
 -- Laws of steps from either end of a list: what one more step does.
-use Rattle.std.proofs.Common.{◌≡◌, ◌<◌, ◌≤◌, ℕ, suc, ◌+◌, List, [], ◌∷◌, ◌++◌, Option, Some, None, length, take, get_or, is_some, MatchOption, if◌then◌else◌, refl, sym, ap, ◌∙◌, subst, arith, length-append, append-nil, inl, inr, IfNone, Contains}
+use Rattle.std.proofs.Common.{◌≡◌, ◌<◌, ◌≤◌, ℕ, ◌+◌, List, [], ◌∷◌, ◌++◌, Option, Some, None, length, take, get_or, is_some, MatchOption, if◌then◌else◌, refl, sym, ap, ◌∙◌, subst, arith, length-append, append-nil, inl, inr, IfNone, Contains}
 use Rattle.std.proofs.lemmas.List.{take_more}
 use Rattle.std.proofs.lemmas.List.Elements.{filter_map-append, Contains-push_cases}
 use Rattle.std.specs.List.{cons_option}
@@ -35,11 +35,6 @@ unfolding items_among
 length-items_among [] = omega arith
 length-items_among (None ∷ rs) = omega (arith, length-items_among rs)
 length-items_among (Some b ∷ rs) = omega (arith, length-items_among rs)
-
-pub length-answers : (xs : List ℕ) (es : List End) → length (answers xs es) ≡ length es
-unfolding answers
-length-answers xs [] = refl
-length-answers xs (e ∷ es) = ap suc (length-answers (without_answer e xs) es)
 
 -- ---- the set without the items among the answers
 

@@ -83,6 +83,12 @@ module _ (op : ℕ → ℕ → ℕ) (a b : List ℕ) where
       set_split ws i x (omega (arith, low, long)) ∙ (λ m. take i ws ++ (x ∷ sym (drop-drop 1 i ws ∙ ap (λ k. drop k ws) (add-one i)) m))
       ∙ sym (put_chunk_is i ws (x ∷ []) (omega (arith, low, long))) ∙ (λ m. put_chunk i ws (zip2 op (sym first m) (sym second m))) ∙ lanes_made ws i 1 (i + 1) e refl (omega (arith, low)) part
 
+-- an operation on each word, as one on two words that leaves the second aside
+pub map_zipped : (f : ℕ → ℕ) (a b : List ℕ) → length a ≡ length b → map f a ≡ zip2 (λ x _. f x) a b
+map_zipped f [] [] e = refl
+map_zipped f (x ∷ a) (y ∷ b) e = ap (λ l. f x ∷ l) (map_zipped f a b (omega (arith, e)))
+map_zipped f a b e = absurd (omega (arith, e))
+
 -- `a & !b` on lanes
 pub turned_lanes : (a b : List ℕ) → zip2 bit_and a (map (bit_not w64) b) ≡ zip2 (λ x y. bit_and x (bit_not w64 y)) a b
 turned_lanes [] b = refl

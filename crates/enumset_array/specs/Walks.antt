@@ -4,7 +4,9 @@
 --     answers, without_answers      what steps from the ends in a list yield, one after another;  the list that they
 --         leave
 --     items_among      the answers that are not None
-use Rattle.std.specs.Prelude.{ℕ, List, [], ◌∷◌, Option, filter_map}
+--     IsWalk      steps from the ends in a list over some words: what they yield, the items that they leave, and that
+--         they make at most one ask for each answer that is not None, and so for each step, and one for each word
+use Rattle.std.specs.Prelude.{◌≡◌, ℕ, ◌+◌, ◌≤◌, List, [], ◌∷◌, length, Option, filter_map}
 use Rattle.enumset_repr.specs.Ends.{first, last, without_first, without_last}
 use Rattle.enumset_array.specs.declared.traversal.End.{End}
 use Rattle.enumset_array.specs.declared.traversal.End.TheVariants.{Front, Back}
@@ -27,3 +29,11 @@ without_answers xs (e ∷ es) = without_answers (without_answer e xs) es
 
 unfoldable pub items_among : List (Option ℕ) → List ℕ
 items_among rs = filter_map (λ r. r) rs
+
+-- the steps find these items in some words, after so many asks; their answers are rs, and they leave the items in left,
+-- after new_asks asks
+pub record IsWalk (items : List ℕ) (asks words : ℕ) (ends : List End) (rs : List (Option ℕ)) (left : List ℕ) (new_asks : ℕ) : Type 0 where
+  pub yields : rs ≡ answers items ends
+  pub leaves : left ≡ without_answers items ends
+  pub steps : new_asks ≤ asks + length ends + words
+  pub yielded : new_asks ≤ asks + length (items_among rs) + words

@@ -108,11 +108,16 @@ fn apply_and_compare<O: SetOperation>(words: &mut [u64], others: &[u64]) -> bool
     any != 0
 }
 
-/// Inverts each bit of the words.
+/// Inverts each bit of the words, four words at a time.
 pub(crate) fn invert(words: &mut [u64])
     ensures { words.new ≡ map (bit_not w64) words.old }
 {
-    for i in 0..words.len() {
+    for k in 0..words.len() / 4 {
+        let i = 4 * k;
+        let lanes = !u64x4::from_slice(&words[i..]);
+        lanes.copy_to_slice(&mut words[i..]);
+    }
+    for i in words.len() / 4 * 4..words.len() {
         words[i] = !words[i];
     }
 }

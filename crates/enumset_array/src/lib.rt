@@ -28,4 +28,4 @@ pub use array_repr::ArrayRepr;
 pub use cursors::{Cursors, step_back, step_front};
 pub use row::Row;
 pub use shown_row::ShownRow;
-pub use traversal::{End, walk};
+pub use traversal::{End, walk, walk_into};

@@ -4,7 +4,7 @@ ghost use Rattle.std.specs.Prelude.{◌≡◌, ◌+◌, ◌≤◌, Contains, len
 ghost use Rattle.enumset_repr.specs.BitSet.{difference, from_list};
 ghost use Rattle.enumset_array.specs.Cursors.{span, Covers};
 ghost use Rattle.enumset_array.specs.OneStep.{TakesOut, CountsAsks};
-ghost use Rattle.enumset_array.specs.Walks.{answer, without_answer, answers, without_answers, items_among};
+ghost use Rattle.enumset_array.specs.Walks.{answer, without_answer, answers, without_answers, items_among, IsWalk};
 ghost use Rattle.enumset_repr.specs.Words.{bits_of};
 ghost use Rattle.enumset_array.specs.Items.{items_of};
 
@@ -37,12 +37,32 @@ fn step<R: Row>(row: &mut R, cursors: &mut Cursors, end: End) -> Option<u32>
     }
 }
 
-/// Takes one step from each of `ends`, in that order, and returns an answer for each: the least or the greatest bit of
-/// the row, which the step takes out, or `None` if the row has no bit.
+/// Takes one step from each of `ends`, in that order, and writes an answer for each: the least or the greatest bit of
+/// the row, which the step takes out, or `None` if the row has no bit. The lists must have the same length.
 ///
 /// All steps use one pair of cursors, which starts over the whole row. However long `ends` is, the number of asks that
 /// the call makes is at most the number of bits that it found plus the number of words of the row. If an answer is
 /// `None`, the number of asks is exactly that. The number of words stays the same.
+///
+/// Rust's `enumset` has no such call.
+pub fn walk_into<R: Row>(row: &mut R, ends: &[End], answers: &mut [Option<u32>])
+    requires { length answers.old ≡ length ends.now }
+    ensures walk { IsWalk (items_of (R.words row.old)) (R.asks row.old) (length (R.words row.old)) ends.now
+        answers.new (items_of (R.words row.new)) (R.asks row.new) }
+    ensures all_asked { Contains answers.new None
+        → R.asks row.new
+        ≡ R.asks row.old + length (items_among answers.new) + length (R.words row.old) }
+    ensures set { bits_of (R.words row.new)
+        ≡ difference (bits_of (R.words row.old)) (from_list (items_among answers.new)) }
+    ensures len { length (R.words row.new) ≡ length (R.words row.old) }
+{
+    let mut cursors = Cursors::over(row.word_count());
+    for i in 0..ends.len() {
+        answers[i] = step(row, &mut cursors, ends[i]);
+    }
+}
+
+/// Takes the steps of [`walk_into`], and returns a list of their answers.
 ///
 /// Room for all answers is taken before the first step. If the call returns `AllocError`, no bit was taken out and no
 /// word was asked.
@@ -70,10 +90,7 @@ pub fn walk<R: Row>(
     ensures len { length (R.words row.new) ≡ length (R.words row.old) }
     ensures unchanged { IfErr result (λ _. row.new ≡ row.old) }
 {
-    let mut answers = Vec::with_capacity(alloc, ends.len())?;
-    let mut cursors = Cursors::over(row.word_count());
-    for end in ends {
-        answers.push(step(row, &mut cursors, *end))?;
-    }
+    let mut answers = vec![in alloc; None; ends.len()]?;
+    walk_into(row, ends, &mut answers);
     Ok(answers)
 }

@@ -1,18 +1,23 @@
-//! Laws of asks, which are the counted reads of a word that an iterator makes.
+//! Laws of the steps of one iterator: what they yield and leave, and how many asks they make, which are the counted
+//! reads of a word.
 //!
-//! Unlike the other laws, these calls take the steps that they are about.
+//! Unlike the other laws, these calls take the steps that they are about. They take no memory. How often an iterator
+//! asks is known over `ArrayRepr`; a representation of your own may count no ask.
 
-ghost use Rattle.std.specs.Prelude.{◌≡◌, ◌+◌, ◌≤◌, length};
+ghost use Rattle.std.specs.Prelude.{◌≡◌, ◌+◌, ◌≤◌, length, map, option_map};
 ghost use Rattle.enumset_repr.specs.Asks.{BoundsAsks};
-ghost use Rattle.enumset_repr.specs.BitSet.{ascending};
-ghost use Rattle.enumset_array.specs.Walks.{answer, without_answer, answers, without_answers, items_among};
+ghost use Rattle.enumset_repr.specs.BitSet.{ascending, contains};
+ghost use Rattle.enumset_array.specs.Walks.{answer, without_answer, answers as answers_of, items_among, IsWalk};
+ghost use Rattle.enumset_sets.specs.Elements.{valid_bits};
+ghost use Rattle.enumset_mixed.specs.Mixed.{bit_with_validity};
 
 use enumset_array::End;
-use enumset_mixed::{MixedEnumSet, MixedEnumSetIter};
+use enumset_mixed::{MixedEnumSet, MixedEnumSetIter, MixedValue};
 use enumset_sets::{EnumSet, EnumSetIter, EnumSetType, EnumSetTypeWithRepr};
 
 /// One step of an iterator from an end.
-fn step<T: EnumSetType>(iter: &mut EnumSetIter<T>, end: End)
+fn step<T: EnumSetType>(iter: &mut EnumSetIter<T>, end: End) -> Option<T>
+    ensures answer { option_map T.elements.bit result ≡ answer end iter.old.items }
     ensures items { iter.new.items ≡ without_answer end iter.old.items }
     ensures asks { BoundsAsks iter.old.asks iter.old.span (answer end iter.old.items)
         iter.new.asks iter.new.span }
@@ -20,11 +25,16 @@ fn step<T: EnumSetType>(iter: &mut EnumSetIter<T>, end: End)
     match end {
         End::Front => iter.next(),
         End::Back => iter.next_back(),
-    };
+    }
 }
 
 /// One step of an iterator over a mixed set from an end.
-fn mixed_step<T: EnumSetTypeWithRepr>(iter: &mut MixedEnumSetIter<T>, end: End)
+fn mixed_step<T: EnumSetTypeWithRepr>(
+    iter: &mut MixedEnumSetIter<T>,
+    end: End,
+) -> Option<MixedValue<T>>
+    ensures answer { option_map (bit_with_validity T.elements.bit) result
+        ≡ option_map (λ b. (b, contains (valid_bits T.elements) b)) (answer end iter.old.items) }
     ensures items { iter.new.items ≡ without_answer end iter.old.items }
     ensures asks { BoundsAsks iter.old.asks iter.old.span (answer end iter.old.items)
         iter.new.asks iter.new.span }
@@ -32,60 +42,96 @@ fn mixed_step<T: EnumSetTypeWithRepr>(iter: &mut MixedEnumSetIter<T>, end: End)
     match end {
         End::Front => iter.next(),
         End::Back => iter.next_back(),
-    };
-}
-
-/// Takes a step of an iterator from each of `ends`, in that order. The sum of its asks and its span grows by at most
-/// one for each element that the steps yield.
-pub fn take_steps<T: EnumSetType>(iter: &mut EnumSetIter<T>, ends: &[End])
-    ensures items { iter.new.items ≡ without_answers iter.old.items ends.now }
-    ensures asks { iter.new.asks + iter.new.span
-        ≤ iter.old.asks + iter.old.span + length (items_among (answers iter.old.items ends.now)) }
-{
-    for end in ends {
-        step(iter, *end);
     }
 }
 
-/// Takes a step of an iterator over a mixed set from each of `ends`, in that order. The sum of its asks and its span
-/// grows by at most one for each member that the steps yield.
-pub fn take_mixed_steps<T: EnumSetTypeWithRepr>(iter: &mut MixedEnumSetIter<T>, ends: &[End])
-    ensures items { iter.new.items ≡ without_answers iter.old.items ends.now }
-    ensures asks { iter.new.asks + iter.new.span
-        ≤ iter.old.asks + iter.old.span + length (items_among (answers iter.old.items ends.now)) }
+/// Takes a step of an iterator from each of `ends`, in that order, and writes an answer for each: the element of the
+/// least or the greatest bit left, which the step takes out, or `None` if no element is left. The lists must have the
+/// same length.
+///
+/// The sum of the asks and the span of the iterator grows by at most one for each element that the steps yield.
+pub fn walk_iter<T: EnumSetType>(iter: &mut EnumSetIter<T>, ends: &[End], answers: &mut [Option<T>])
+    requires { length answers.old ≡ length ends.now }
+    ensures walk { IsWalk iter.old.items iter.old.asks iter.old.span ends.now
+        (map (option_map T.elements.bit) answers.new) iter.new.items iter.new.asks }
+    ensures span { iter.new.asks + iter.new.span
+        ≤ iter.old.asks + iter.old.span + length (items_among (answers_of iter.old.items ends.now)) }
 {
-    for end in ends {
-        mixed_step(iter, *end);
+    for i in 0..ends.len() {
+        answers[i] = step(iter, ends[i]);
     }
 }
 
-/// Returns an iterator over a set, after a step from each of `ends`, in that order. Its asks are at most the number of
-/// steps plus the number of words of the representation, whatever the ends and their order. They are also at most the
-/// number of elements that the steps yielded plus that number of words.
-pub fn asks_of_steps<T: EnumSetType>(set: &EnumSet<T>, ends: &[End]) -> EnumSetIter<T>
-    ensures items { result.items ≡ without_answers (ascending set.now) ends.now }
-    ensures asks { result.asks ≤ length ends.now + T.Repr.PREFERRED_ARRAY_LEN }
-    ensures yielded { result.asks
-        ≤ length (items_among (answers (ascending set.now) ends.now)) + T.Repr.PREFERRED_ARRAY_LEN }
+/// Takes a step of an iterator over a mixed set from each of `ends`, in that order, and writes an answer for each: the
+/// member of the least or the greatest bit left, which the step takes out, or `None` if no member is left. The lists
+/// must have the same length.
+///
+/// The sum of the asks and the span of the iterator grows by at most one for each member that the steps yield.
+pub fn walk_mixed_iter<T: EnumSetTypeWithRepr>(
+    iter: &mut MixedEnumSetIter<T>,
+    ends: &[End],
+    answers: &mut [Option<MixedValue<T>>],
+)
+    requires { length answers.old ≡ length ends.now }
+    ensures walk { IsWalk iter.old.items iter.old.asks iter.old.span ends.now
+        (map (option_map (λ v. (bit_with_validity T.elements.bit v).0)) answers.new)
+        iter.new.items iter.new.asks }
+    ensures validity { map (option_map (bit_with_validity T.elements.bit)) answers.new
+        ≡ map (option_map (λ b. (b, contains (valid_bits T.elements) b)))
+        (answers_of iter.old.items ends.now) }
+    ensures span { iter.new.asks + iter.new.span
+        ≤ iter.old.asks + iter.old.span + length (items_among (answers_of iter.old.items ends.now)) }
+{
+    for i in 0..ends.len() {
+        answers[i] = mixed_step(iter, ends[i]);
+    }
+}
+
+/// Takes a step of one iterator over a set from each of `ends`, in that order. It writes an answer for each, as
+/// [`walk_iter`] does, and returns the iterator with how many elements are left. The lists must have the same length.
+///
+/// However long `ends` is, the iterator has then made at most one ask for each step and one for each word of the
+/// representation, `N` words of an `ArrayRepr<N>`. It has also made at most one for each element that the steps yielded,
+/// and one for each word. Counting the elements left reads words too, and is no ask.
+pub fn walk_set<T: EnumSetType>(
+    set: &EnumSet<T>,
+    ends: &[End],
+    answers: &mut [Option<T>],
+) -> (EnumSetIter<T>, usize)
+    requires { length answers.old ≡ length ends.now }
+    ensures { IsWalk (ascending set.now) 0 T.Repr.PREFERRED_ARRAY_LEN ends.now
+        (map (option_map T.elements.bit) answers.new) result.0.items result.0.asks
+        × (result.1 ≡ length result.0.items) }
 {
     let mut iter = set.iter();
-    take_steps(&mut iter, ends);
-    iter
+    walk_iter(&mut iter, ends, answers);
+    let left = iter.len();
+    (iter, left)
 }
 
-/// Returns an iterator over a mixed set, after a step from each of `ends`, in that order. Its asks are at most the
-/// number of steps plus the number of words of the representation, whatever the ends and their order. They are also at
-/// most the number of members that the steps yielded plus that number of words.
-pub fn asks_of_mixed_steps<T: EnumSetTypeWithRepr>(
+/// Takes a step of one iterator over a mixed set from each of `ends`, in that order. It writes an answer for each, as
+/// [`walk_mixed_iter`] does, and returns the iterator with how many members are left. The lists must have the same
+/// length.
+///
+/// However long `ends` is, the iterator has then made at most one ask for each step and one for each word of the
+/// representation, `N` words of an `ArrayRepr<N>`. It has also made at most one for each member that the steps yielded,
+/// and one for each word. Counting the members left reads words too, and is no ask.
+pub fn walk_mixed_set<T: EnumSetTypeWithRepr>(
     set: &MixedEnumSet<T>,
     ends: &[End],
-) -> MixedEnumSetIter<T>
-    ensures items { result.items ≡ without_answers (ascending set.now) ends.now }
-    ensures asks { result.asks ≤ length ends.now + T.Repr.PREFERRED_ARRAY_LEN }
-    ensures yielded { result.asks
-        ≤ length (items_among (answers (ascending set.now) ends.now)) + T.Repr.PREFERRED_ARRAY_LEN }
+    answers: &mut [Option<MixedValue<T>>],
+) -> (MixedEnumSetIter<T>, usize)
+    requires { length answers.old ≡ length ends.now }
+    ensures { IsWalk (ascending set.now) 0 T.Repr.PREFERRED_ARRAY_LEN ends.now
+        (map (option_map (λ v. (bit_with_validity T.elements.bit v).0)) answers.new)
+        result.0.items result.0.asks
+        × (map (option_map (bit_with_validity T.elements.bit)) answers.new
+        ≡ map (option_map (λ b. (b, contains (valid_bits T.elements) b)))
+        (answers_of (ascending set.now) ends.now))
+        × (result.1 ≡ length result.0.items) }
 {
     let mut iter = set.iter();
-    take_mixed_steps(&mut iter, ends);
-    iter
+    walk_mixed_iter(&mut iter, ends, answers);
+    let left = iter.len();
+    (iter, left)
 }

@@ -2,7 +2,7 @@
 
 use crate::expect::expect;
 use enumset_array::End::{Back, Front};
-use enumset_array::{ArrayRepr, End, ShownRow, walk};
+use enumset_array::{ArrayRepr, End, ShownRow, walk, walk_into};
 use std::alloc::{AllocError, Global};
 use std::process::Abort;
 use std::test::Fail;
@@ -47,4 +47,15 @@ fn few_words(rt: HostRuntime) -> Result<(), Fail> {
     let row = ShownRow::new(ArrayRepr([]));
     expect_walk(&rt, alloc, row, &[Front, Back], &[None, None], 0)?;
     Ok(())
+}
+
+#[test]
+fn without_memory(rt: HostRuntime) {
+    // {3, 64, 130}
+    let mut row = ShownRow::new(ArrayRepr([8, 1, 4]));
+    let mut answers = [None; 2];
+    walk_into(&mut row, &[Back, Back], &mut answers);
+    expect(&rt, "answers", answers, [Some(130), Some(64)]);
+    // The words at places 2, 2 and 1: that at 2 is empty when it is asked again.
+    expect(&rt, "asked", row.shown(), 3);
 }

@@ -1,0 +1,15 @@
+use Rattle.std.proofs.Common.{◌≡◌, ◌+◌, ◌≤◌, ◌++◌, option_map, map, take, drop, length}
+use Rattle.enumset_array.specs.Walks.{answers, without_answers, items_among}
+use Rattle.enumset_mixed.specs.Mixed.{bit_with_validity}
+use Rattle.enumset_sets.specs.Elements.{valid_bits}
+use Rattle.enumset.proofs.AskedSteps.{pair}
+use Rattle.enumset.proofs.laws.asks.walk_mixed_iter.Given as goal
+
+-- the steps so far with those still to come yield what all steps yield, and leave what they leave; the steps to come
+-- raise the sum of asks and span to at most its bound
+abbrev pub invariant-loop-i : goal.invariant-loop-i
+invariant-loop-i g l = record {
+  yields : map (option_map (bit_with_validity g.T.EnumSetType.elements.bit)) (take l.i l.answers) ++ map (option_map (pair (valid_bits g.T.EnumSetType.elements))) (answers l.iter.items (drop l.i l.ends)) ≡ map (option_map (pair (valid_bits g.T.EnumSetType.elements))) (answers l.initial.iter.items l.ends);
+  items : without_answers l.iter.items (drop l.i l.ends) ≡ without_answers l.initial.iter.items l.ends;
+  asks : l.iter.asks + l.iter.span + length (items_among (answers l.iter.items (drop l.i l.ends))) ≤ l.initial.iter.asks + l.initial.iter.span + length (items_among (answers l.initial.iter.items l.ends));
+}
