@@ -9,6 +9,8 @@ ghost use Rattle.enumset_repr.specs.BitSet.{BitSet, is_in, contains, ascending, 
 ghost use Rattle.enumset_repr.specs.Number.{number};
 ghost use Rattle.enumset_repr.specs.Order.{compare};
 
+use crate::repr::EnumSetTypeRepr;
+
 /// Tells the proof the equations of sets: which numbers are in each set, that sets with the same members are equal, and
 /// that a set is given by the list of its members, which ascends and whose length is the number of members.
 ///
