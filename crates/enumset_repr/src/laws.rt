@@ -11,8 +11,9 @@ ghost use Rattle.enumset_repr.specs.Order.{compare};
 
 use crate::repr::EnumSetTypeRepr;
 
-/// Tells the proof the equations of sets: which numbers are in each set, that sets with the same members are equal, and
-/// that a set is given by the list of its members, which ascends and whose length is the number of members.
+/// Tells the proof the equations of sets: which numbers are in each set, that sets with the same members are equal, that a
+/// set is given by the list of its members, which ascends and whose length is the number of members, and what the tests of
+/// sets say.
 ///
 /// The equations determine each operation, so a reader who believes them need not read how sets are defined. It does
 /// nothing at run time.
@@ -42,6 +43,12 @@ pub fn model()
     ensures ascends { (s : BitSet) (i j : ℕ) → i < j → j < length (ascending s)
         → slice_index (ascending s) i < slice_index (ascending s) j }
     ensures len { (s : BitSet) → set.len s ≡ length (ascending s) }
+    ensures subset { (s t : BitSet) → IsTrue (is_subset s t)
+        ↔ ((q : ℕ) → IsTrue (contains s q) → IsTrue (contains t q)) }
+    ensures disjoint { (s t : BitSet) → IsTrue (set.is_disjoint s t)
+        ↔ ((q : ℕ) → IsTrue (contains s q) → contains t q ≡ false) }
+    ensures is_same { (s t : BitSet) → IsTrue (set.is_same s t) ↔ s ≡ t }
+    ensures is_empty { (s : BitSet) → IsTrue (set.is_empty s) ↔ s ≡ set.empty }
 {}
 
 /// Tells the proof the laws of the order of sets. Of two sets that differ, the greater is the one that has the greatest
