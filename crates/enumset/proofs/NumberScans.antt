@@ -1,5 +1,5 @@
 -- The invariant of the loop that scans a number's digits, and which number a text begins with.
-use Rattle.std.proofs.Common.{◌≡◌, ◌<◌, ◌≤◌, ◌+◌, ◌*◌, ◌/◌, ◌%◌, ◌^◌, ℕ, zero, suc, List, [], ◌∷◌, ◌++◌, length, drop, get_or, decimal, true, refl, sym, ap, subst, ◌∙◌, ◌⊎◌, inl, inr, append_assoc, append-nil, drop-cons, length-append, arith, pow-add}
+use Rattle.std.proofs.Common.{◌≡◌, ◌<◌, ◌≤◌, ◌+◌, ◌*◌, ◌/◌, ◌%◌, ◌^◌, ℕ, zero, suc, List, [], ◌∷◌, ◌++◌, length, drop, get_or, decimal, true, refl, sym, ap, subst, ◌∙◌, append_assoc, append-nil, drop-cons, arith, pow-add}
 use Rattle.std.proofs.Math.Nat.{pow-le-pow_right}
 use Rattle.std.proofs.lemmas.Bool.Decides.{nat_tests}
 use Rattle.std.proofs.lemmas.Fmt.{decimal_digit, decimal_step, decimal_is_IsNumeral, decimal_nonempty, first_decimal}
@@ -9,7 +9,7 @@ use Rattle.std.specs.Char.{digit_value, is_ascii_digit}
 use Rattle.std.specs.List.{AllByRecursion}
 use Rattle.std.specs.Str.Parse.{AllDigits, digits_value, digits_value_after}
 use Rattle.enumset.proofs.DigitsWritten.{last_two}
-use Rattle.enumset.proofs.JsonScans.{further, parted}
+use Rattle.enumset.proofs.JsonScans.{further}
 use Rattle.enumset.specs.JsonPlain.{Begins}
 
 pub first_digit : (s xs : List ℕ) (x d : ℕ) → d < 10 → x ≡ 48 + d → s ≡ x ∷ xs → s ≡ decimal d ++ xs

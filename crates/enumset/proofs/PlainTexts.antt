@@ -1,5 +1,5 @@
 -- What the readers find in plain texts, token by token.
-use Rattle.std.proofs.Common.{◌≡◌, ◌<◌, ◌≤◌, ◌+◌, ◌^◌, ℕ, Bool, true, false, List, [], ◌∷◌, ◌++◌, length, length-append, map, decimal, refl, sym, ap, subst, ◌∙◌, ◌⊎◌, inl, inr, arith, true≢false, append_assoc, ◌==◌, eq-eqb}
+use Rattle.std.proofs.Common.{◌≡◌, ◌<◌, ◌^◌, ℕ, true, false, List, [], ◌∷◌, ◌++◌, length, length-append, map, decimal, refl, sym, ap, subst, ◌∙◌, ◌⊎◌, inl, inr, arith, true≢false, append_assoc, ◌==◌, eq-eqb}
 use Rattle.std.proofs.lemmas.Bool.Decides.{nat_tests}
 use Rattle.std.proofs.lemmas.Fmt.{decimal_nonempty}
 use Rattle.std.specs.Char.{is_ascii_digit}

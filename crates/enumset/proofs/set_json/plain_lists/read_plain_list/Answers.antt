@@ -1,4 +1,4 @@
-use Rattle.std.proofs.Common.{◌⊎◌, ◌≡◌, List, ℕ, length, length-append, Ok, None, refl, sym, ap, subst, arith, ◌∷◌, ◌∙◌}
+use Rattle.std.proofs.Common.{◌⊎◌, List, ℕ, length, length-append, Ok, None, refl, sym, ap, subst, arith}
 use Rattle.enumset_repr.specs.BitSet.{empty}
 use Rattle.enumset.proofs.PlainLists.{GoesOn, is_read, none_named, goes_on_from, goes_on, ends, no_unknown}
 use Rattle.enumset.proofs.JsonScans.{some_if}

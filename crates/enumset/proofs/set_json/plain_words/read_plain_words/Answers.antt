@@ -1,4 +1,4 @@
-use Rattle.std.proofs.Common.{◌⊎◌, ◌≤◌, ◌+◌, List, ℕ, length, length-append, subst, refl, arith, ap}
+use Rattle.std.proofs.Common.{◌⊎◌, List, ℕ, length, length-append, subst, refl, arith, ap}
 use Rattle.enumset.proofs.JsonScans.{some_if}
 use Rattle.enumset.proofs.PlainTexts.{Closes, Next, WordsLeft, next, no_next, closes_here, goes_on_here, next_or_end, passed_less, plain_words, word_or_end, words_some, word_found, no_word_found}
 use Rattle.enumset.proofs.PlainWords.{kept_if, no_words, goes_on_from, goes_on, ends}
