@@ -18,6 +18,7 @@ mod JsonScans
 mod PlainLists
 mod JsonNumbers
 mod NumberScans
+mod PlainTexts
 mod PlainWords
 mod DigitsWritten
 mod WordsWritten

@@ -1,5 +1,5 @@
 -- The invariant of the loop that reads plain maps, and the set that a map is read as.
-use Rattle.std.proofs.Common.{◌≡◌, ◌+◌, ℕ, Bool, true, false, cond, Some, None, Ok, List, [], ◌∷◌, refl, sym, ap, subst, ◌∙◌, inr, true≢false, arith, option_map, filter_map}
+use Rattle.std.proofs.Common.{◌≡◌, ◌+◌, ℕ, Bool, true, false, cond, Some, None, Ok, List, [], ◌∷◌, refl, sym, ap, subst, ◌∙◌, true≢false, arith, option_map, filter_map}
 use Rattle.std.proofs.lemmas.Bool.Decides.{nat_tests}
 use Rattle.std.proofs.lemmas.Iterator.Adapters.{position_from-zero}
 use Rattle.std.specs.List.{cons_option, position_from}
@@ -16,7 +16,7 @@ use Rattle.enumset.proofs.PlainLists.{no_unknown}
 use Rattle.enumset.specs.Json.{unless_fault}
 use Rattle.enumset.specs.JsonNames.{members_in, names_in, true_names, is_no_boolean, is_unknown, known_set, decided, set_of_map}
 use Rattle.enumset.specs.JsonPlain.{StartsWithMember, AreSpaces, Passed}
-use Rattle.enumset.specs.JsonReads.{IsResult, IsReadOf}
+use Rattle.enumset.specs.JsonReads.{value_read, IsResult}
 use Rattle.enumset.specs.Names.{Names, bit_named}
 use Rattle.enumset.specs.declared.set_json.fault.JsonFault.TheVariants.{NotABoolean}
 use Rattle.enumset.specs.declared.set_json.unknown.Unknown.{Unknown}
@@ -100,13 +100,13 @@ module _ (names : Names) where
       λ ms later. so_far.3 ((name, b) ∷ ms) (next_member left name b rest here after next ms comma quote later),
     )
 
-    pub scan_ends : (end : List ℕ) (unknown : Unknown) → Passed rest 125 end → AreSpaces end → IsReadOf (set_of_map names unknown) text (Ok (cond b (insert s c) s))
+    pub scan_ends : (end : List ℕ) (unknown : Unknown) → Passed rest 125 end → AreSpaces end → IsResult (value_read (set_of_map names unknown) text) (Ok (cond b (insert s c) s))
     scan_ends end unknown close spaced =
         let whole : read text ≡ Some (object done) = so_far.3 ((name, b) ∷ []) (last_member left name b rest here end close spaced) in
-        inr (subst (λ o. IsResult (option_map (set_of_map names unknown) o) (Ok (cond b (insert s c) s))) (sym whole) (ap Ok (sym set_done) ∙ sym (whole_set (insert seen c) unknown done each_done)))
+        subst (λ o. IsResult (option_map (set_of_map names unknown) o) (Ok (cond b (insert s c) s))) (sym whole) (ap Ok (sym set_done) ∙ sym (whole_set (insert seen c) unknown done each_done))
 
-  pub scan_none : (text bytes rest end : List ℕ) (unknown : Unknown) → bytes ≡ text → Passed bytes 123 rest → Passed rest 125 end → AreSpaces end → IsReadOf (set_of_map names unknown) text (Ok empty)
+  pub scan_none : (text bytes rest end : List ℕ) (unknown : Unknown) → bytes ≡ text → Passed bytes 123 rest → Passed rest 125 end → AreSpaces end → IsResult (value_read (set_of_map names unknown) text) (Ok empty)
   unfolding from_list
   scan_none text bytes rest end unknown same found close spaced =
       let whole : read text ≡ Some (object no_members) = ap read (sym same) ∙ opened bytes rest [] found (no_item 125 closes.1 rest end close spaced) in
-      inr (subst (λ o. IsResult (option_map (set_of_map names unknown) o) (Ok empty)) (sym whole) (sym (whole_set empty unknown no_members tt)))
+      subst (λ o. IsResult (option_map (set_of_map names unknown) o) (Ok empty)) (sym whole) (sym (whole_set empty unknown no_members tt))

@@ -1,6 +1,7 @@
 -- The invariant of the loop that reads plain lists.
-use Rattle.std.proofs.Common.{◌≡◌, ◌+◌, ℕ, cond, List, [], ◌∷◌, ◌++◌, Option, Some, None, Ok, refl, sym, ap, ◌∙◌, inr, subst, option_map, Result, true}
+use Rattle.std.proofs.Common.{◌≡◌, ◌+◌, ℕ, cond, List, [], ◌∷◌, ◌++◌, Option, Some, None, Ok, Err, refl, sym, ap, ◌∙◌, ◌⊎◌, inl, inr, subst, option_map, Result, true}
 use Rattle.std.specs.Option.{option_or, option_map_or}
+use Rattle.std.specs.Result.{IsErrAnd}
 use Rattle.serde_json.specs.Data.{Data, array, string, item, no_items, Items}
 use Rattle.serde_json.specs.Read.{read}
 use Rattle.enumset_repr.specs.BitSet.{BitSet, empty, insert}
@@ -13,12 +14,20 @@ use Rattle.enumset.specs.JsonPlain.{IsPlain, AreSpaces, Passed}
 use Rattle.enumset.specs.JsonReads.{value_read, IsResult, IsReadOf}
 use Rattle.enumset.specs.Names.{Names, bit_named}
 use Rattle.enumset.specs.declared.set_json.fault.JsonFault.{JsonFault}
+use Rattle.enumset.specs.declared.set_json.fault.JsonFault.TheVariants.{NotJson, OutOfMemory}
 use Rattle.enumset.specs.declared.set_json.unknown.Unknown.{Unknown}
 use Rattle.enumset.specs.declared.set_json.unknown.Unknown.TheVariants.{Drop, Refuse}
 
 -- the result for a text's value is the result for the text
-pub is_read : (reader : Data → Result BitSet JsonFault) (text : List ℕ) (wanted result : Result BitSet JsonFault) → value_read reader text ≡ Some wanted → result ≡ wanted → IsReadOf reader text result
-is_read reader text wanted result e is = inr (subst (λ o. IsResult o result) (sym e) is)
+pub is_read : (reader : Data → Result BitSet JsonFault) (text : List ℕ) (wanted result : Result BitSet JsonFault) → value_read reader text ≡ Some wanted → result ≡ wanted → IsResult (value_read reader text) result
+is_read reader text wanted result e is = subst (λ o. IsResult o result) (sym e) is
+
+-- the result for a text that the parser refused
+pub refused : (reader : Data → Result BitSet JsonFault) (text : List ℕ) (result : Result BitSet JsonFault) (Memory : Type 0)
+    → IsErrAnd result (λ fault. (Memory × (fault ≡ OutOfMemory)) ⊎ ((Memory → ⊥) × ((line : ℕ) × (fault ≡ NotJson line)))) → ((Memory → ⊥) → read text ≡ None) → IsReadOf reader text result
+refused reader text (Ok s) Memory gives none = absurd gives
+refused reader text (Err fault) Memory (inl (memory, is)) none = inl (ap Err is)
+refused reader text (Err fault) Memory (inr (other, (line, is))) none = inr (subst (λ o. IsResult o (Err fault)) (sym (ap (option_map reader) (none other))) (line, ap Err is))
 
 -- if no name is unknown, the set is the result
 pub no_unknown : (unknown : Unknown) (s t : BitSet) → s ≡ t → Ok s ≡ decided unknown None t

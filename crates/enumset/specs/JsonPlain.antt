@@ -1,7 +1,15 @@
--- Strings that need no escape in JSON, and how they are read and written. No clause of a public call cites this file:
--- it serves the contracts of private functions.
+-- Plain texts, which are read without memory, and strings that need no escape in JSON. The clauses of public calls cite
+-- IsPlainNumber, IsPlainWords and IsPlainList. The other names serve these and private functions.
 --     IsPlainByte, IsPlain      a byte needs no escape in a string;  each byte of a list needs none
 --     is_space, AreSpaces      whether a byte is allowed between tokens;  each byte of a list is
+--     Begins      a list begins with a byte that has a property
+--     IsSpaced      a text is some tokens, with spaces before, between and after them
+--     quoted      a string between quotes
+--     later_tokens, item_tokens      the tokens after an item of an array;  after the opening bracket
+--     word_tokens, name_tokens      the tokens of a number;  of a name
+--     IsPlainNumber      a text is a whole number from 0 to 2 ^ 64 - 1
+--     IsPlainWords      a text is an array of such numbers
+--     IsPlainList      a text is an array of strings that need no escape
 --     Passed      spaces, a byte, and what follows it
 --     IsTextOf, IsTextIfPlain      a text is what a value is written as, and reads as the value;  a result is such a text
 --         if it is a text
@@ -9,7 +17,7 @@
 --     AreRising      each of some names is before the later ones, in the order of their bytes
 --     IsName      a text is the name of one of some bits
 --     AreMembers      some names are the names of a set's members, in the order of their bytes
-use Rattle.std.specs.Prelude.{◌≡◌, ◌⊎◌, ℕ, List, [], ◌∷◌, ◌++◌, length, Bool, true, false, nat_lt, ◌==◌, ◌||◌, Option, Some, Result, String, IfOk, IfSome, string_bytes}
+use Rattle.std.specs.Prelude.{◌≡◌, ◌⊎◌, ◌<◌, ◌^◌, ℕ, List, [], ◌∷◌, ◌++◌, length, map, Bool, true, false, nat_lt, ◌==◌, ◌||◌, Option, Some, Result, String, IfOk, IfSome, string_bytes, decimal}
 use Rattle.std.specs.Borrow.{Bor}
 use Rattle.std.specs.Cmp.Lexicographic.{slice_cmp}
 use Rattle.std.specs.List.{All, AllByRecursion}
@@ -32,6 +40,45 @@ is_space x = (x == 32) || (x == 9) || (x == 10) || (x == 13)
 
 abbrev pub AreSpaces : List ℕ → Type 0
 AreSpaces = AllByRecursion (λ x. is_space x ≡ true)
+
+abbrev pub Begins : (ℕ → Type 0) → List ℕ → Type 0
+Begins P [] = ⊥
+Begins P (x ∷ xs) = P x
+
+-- ---- texts that are read without memory
+
+abbrev pub IsSpaced : List (List ℕ) → List ℕ → Type 0
+IsSpaced [] text = AreSpaces text
+IsSpaced (token ∷ tokens) text = (spaces : List ℕ) × (rest : List ℕ) × AreSpaces spaces × (text ≡ spaces ++ (token ++ rest)) × IsSpaced tokens rest
+
+abbrev pub quoted : List ℕ → List ℕ
+quoted string = 34 ∷ (string ++ 34 ∷ [])
+
+-- a comma before each further item, and the closing bracket
+abbrev pub later_tokens : ℕ → List (List (List ℕ)) → List (List ℕ)
+later_tokens end [] = (end ∷ []) ∷ []
+later_tokens end (item ∷ items) = (44 ∷ []) ∷ (item ++ later_tokens end items)
+
+abbrev pub item_tokens : ℕ → List (List (List ℕ)) → List (List ℕ)
+item_tokens end [] = (end ∷ []) ∷ []
+item_tokens end (item ∷ items) = item ++ later_tokens end items
+
+abbrev pub word_tokens : ℕ → List (List ℕ)
+word_tokens n = decimal n ∷ []
+
+abbrev pub name_tokens : List ℕ → List (List ℕ)
+name_tokens name = quoted name ∷ []
+
+abbrev pub IsPlainNumber : List ℕ → Type 0
+IsPlainNumber text = (n : ℕ) × (n < 2 ^ 64) × IsSpaced (word_tokens n) text
+
+abbrev pub IsPlainWords : List ℕ → Type 0
+IsPlainWords text = (ns : List ℕ) × AllByRecursion (λ n. n < 2 ^ 64) ns × IsSpaced ((91 ∷ []) ∷ item_tokens 93 (map word_tokens ns)) text
+
+abbrev pub IsPlainList : List ℕ → Type 0
+IsPlainList text = (found : List (List ℕ)) × AllByRecursion IsPlain found × IsSpaced ((91 ∷ []) ∷ item_tokens 93 (map name_tokens found)) text
+
+-- ---- the steps of the readers and writers
 
 abbrev pub Passed : List ℕ → ℕ → List ℕ → Type 0
 Passed text byte rest = (spaces : List ℕ) × AreSpaces spaces × (text ≡ spaces ++ byte ∷ rest)

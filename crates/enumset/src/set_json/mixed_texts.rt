@@ -7,7 +7,8 @@ ghost use Rattle.serde_json.specs.Read.{read};
 ghost use Rattle.serde_json.specs.Written.{compact_text};
 ghost use Rattle.enumset.specs.Json.{number_value, words_value};
 ghost use Rattle.enumset.specs.Json.{mixed_set_of_number, mixed_set_of_words};
-ghost use Rattle.enumset.specs.JsonReads.{IsReadOf};
+ghost use Rattle.enumset.specs.JsonPlain.{IsPlainNumber, IsPlainWords};
+ghost use Rattle.enumset.specs.JsonReads.{value_read, IsResult, IsReadOf};
 ghost use Rattle.enumset.specs.declared.set_json.fault.JsonFault.TheVariants.{OutOfMemory};
 
 use super::fault::JsonFault;
@@ -63,7 +64,9 @@ pub fn mixed_from_number_text<T: EnumSetTypeWithRepr>(
     text: &str,
 ) -> Result<MixedEnumSet<T>, JsonFault>
     requires narrow { T.Repr.WIDTH ≤ 64 }
-    ensures { IsReadOf (mixed_set_of_number T.Repr.WIDTH) text.now result }
+    ensures read { IsReadOf (mixed_set_of_number T.Repr.WIDTH) text.now result }
+    ensures plain { IsPlainNumber text.now
+        → IsResult (value_read (mixed_set_of_number T.Repr.WIDTH) text.now) result }
 {
     match read_plain_number(text) {
         Some(number) => mixed_set_of(number),
@@ -79,7 +82,9 @@ pub fn mixed_from_words_text<T: EnumSetTypeWithRepr>(
     text: &str,
     past: Unknown,
 ) -> Result<MixedEnumSet<T>, JsonFault>
-    ensures { IsReadOf (mixed_set_of_words T.Repr.WIDTH past) text.now result }
+    ensures read { IsReadOf (mixed_set_of_words T.Repr.WIDTH past) text.now result }
+    ensures plain { IsPlainWords text.now
+        → IsResult (value_read (mixed_set_of_words T.Repr.WIDTH past) text.now) result }
 {
     match read_plain_words(text) {
         Some(words) => kept_below(words, past),

@@ -1,9 +1,9 @@
 //! Texts of lists of names without escapes, written and read without a tree of values.
 
-ghost use Rattle.std.specs.Prelude.{◌≡◌, ◌==◌, ◌++◌, if◌then◌else◌, IfSome, OnOk, length, string_bytes};
+ghost use Rattle.std.specs.Prelude.{◌≡◌, ◌==◌, ◌++◌, if◌then◌else◌, IfSome, IsSome, OnOk, length, string_bytes};
 ghost use Rattle.enumset.specs.JsonNames.{list_value, set_of_list};
-ghost use Rattle.enumset.specs.JsonPlain.{IsTextIfPlain};
-ghost use Rattle.enumset.specs.JsonReads.{IsReadOf};
+ghost use Rattle.enumset.specs.JsonPlain.{IsPlainList, IsTextIfPlain};
+ghost use Rattle.enumset.specs.JsonReads.{value_read, IsResult};
 ghost use Rattle.enumset.specs.Names.{names_of};
 
 use super::fault::JsonFault;
@@ -53,8 +53,9 @@ pub(super) fn read_plain_list<T: EnumSetNames>(
     text: &str,
     unknown: Unknown,
 ) -> Option<Result<EnumSet<T>, JsonFault>>
-    ensures { IfSome result (λ set.
-        IsReadOf (set_of_list (names_of T.elements T.names) unknown) text.now set) }
+    ensures set { IfSome result (λ set.
+        IsResult (value_read (set_of_list (names_of T.elements T.names) unknown) text.now) set) }
+    ensures plain { IsPlainList text.now → IsSome result }
 {
     let rest = after_byte(text.as_bytes(), b'[')?;
     if let Some(end) = after_byte(rest, b']') {

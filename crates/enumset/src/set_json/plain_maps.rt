@@ -4,7 +4,7 @@ ghost use Rattle.std.specs.Prelude.{Ok, IfSome};
 ghost use Rattle.enumset_repr.specs.BitSet.{BitSet};
 ghost use Rattle.enumset.specs.JsonNames.{map_value, set_of_map};
 ghost use Rattle.enumset.specs.JsonPlain.{AreMembers, StartsWithMember, IsTextIfPlain};
-ghost use Rattle.enumset.specs.JsonReads.{IsReadOf};
+ghost use Rattle.enumset.specs.JsonReads.{value_read, IsResult};
 ghost use Rattle.enumset.specs.Names.{Names, names_of};
 ghost use Rattle.enumset.specs.declared.set_json.unknown.Unknown.{Unknown};
 
@@ -63,7 +63,7 @@ fn split_member(bytes: &[u8]) -> Option<(&[u8], bool, &[u8])>
 /// The set of a map of plain names, if they are all known and none comes twice. No other text is read.
 pub(super) fn read_plain_map<T: EnumSetNames>(text: &str) -> Option<EnumSet<T>>
     ensures { IfSome result (λ set. (unknown : Unknown)
-        → IsReadOf (set_of_map (names_of T.elements T.names) unknown) text.now (Ok set)) }
+        → IsResult (value_read (set_of_map (names_of T.elements T.names) unknown) text.now) (Ok set)) }
 {
     let members = after_byte(text.as_bytes(), b'{')?;
     if let Some(end) = after_byte(members, b'}') {

@@ -1,8 +1,12 @@
 //! JSON texts of whole numbers, written and read digit by digit, without a tree of values.
 
-ghost use Rattle.std.specs.Prelude.{◌≡◌, ◌<◌, ◌+◌, ◌^◌, ◌++◌, decimal, IfOk, IfSome, Some, string_bytes};
+ghost use Rattle.std.specs.Prelude.{◌≡◌, ◌<◌, ◌+◌, ◌^◌, ◌++◌, ℕ, List, true, decimal, IfOk, IfSome, Some, IsSome};
+ghost use Rattle.std.specs.Prelude.{is_some, string_bytes};
+ghost use Rattle.std.specs.Char.{is_ascii_digit};
+ghost use Rattle.std.specs.Option.{IsSomeAnd};
 ghost use Rattle.serde_json.specs.Read.{read};
 ghost use Rattle.enumset.specs.Json.{number_value};
+ghost use Rattle.enumset.specs.JsonPlain.{Begins, IsPlainNumber};
 
 use super::digits::{ascii_text, push_digits};
 use super::scan::{are_spaces, split_spaces};
@@ -20,7 +24,8 @@ pub(super) fn write_plain_number(alloc: Global, number: u64) -> Result<String, A
 
 /// The whole number below 2^64 in a text that has nothing else, except spaces at its ends. No other text is read.
 pub(super) fn read_plain_number(text: &str) -> Option<u64>
-    ensures { IfSome result (λ number. read text.now ≡ Some (number_value number)) }
+    ensures value { IfSome result (λ number. read text.now ≡ Some (number_value number)) }
+    ensures plain { IsPlainNumber text.now → IsSome result }
 {
     let (_, rest) = split_spaces(text.as_bytes());
     let (number, end) = split_number(rest)?;
@@ -32,6 +37,8 @@ pub(super) fn read_plain_number(text: &str) -> Option<u64>
 pub(super) fn split_number(bytes: &[u8]) -> Option<(u64, &[u8])>
     ensures below { IfSome result (λ parts. parts.0 < 2 ^ 64) }
     ensures whole { IfSome result (λ parts. bytes.now ≡ decimal parts.0 ++ parts.1.now) }
+    ensures found { (n : ℕ) → (rest : List ℕ) → n < 2 ^ 64 → ¬ Begins (λ x. is_ascii_digit x ≡ true) rest
+        → bytes.now ≡ decimal n ++ rest → IsSomeAnd result (λ parts. (parts.0 ≡ n) × (parts.1.now ≡ rest)) }
 {
     let (first, rest) = bytes.split_first()?;
     let mut number = digit_of(*first)?;
@@ -64,6 +71,7 @@ pub(super) fn split_number(bytes: &[u8]) -> Option<(u64, &[u8])>
 fn digit_of(byte: u8) -> Option<u64>
     ensures below { IfSome result (λ digit. digit < 10) }
     ensures byte { IfSome result (λ digit. byte ≡ 48 + digit) }
+    ensures digit { is_some result ≡ is_ascii_digit byte }
 {
     byte.is_ascii_digit()
         .then_some(byte.wrapping_sub(b'0') as u64)

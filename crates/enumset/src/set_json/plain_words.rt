@@ -1,11 +1,12 @@
 //! JSON texts of arrays of words, written and read without a tree of values.
 
-ghost use Rattle.std.specs.Prelude.{◌≡◌, ℕ, List, IfOk, IfSome, Some, string_bytes};
+ghost use Rattle.std.specs.Prelude.{◌≡◌, ℕ, List, IfOk, IfSome, IsSome, Some, string_bytes};
 ghost use Rattle.enumset_repr.specs.BitSet.{low, is_subset, below};
 ghost use Rattle.enumset_repr.specs.Words.{words, bits_of};
 ghost use Rattle.serde_json.specs.Read.{read};
 ghost use Rattle.serde_json.specs.Written.{compact_text};
 ghost use Rattle.enumset.specs.Json.{words_value};
+ghost use Rattle.enumset.specs.JsonPlain.{IsPlainWords};
 
 use super::digits::{ascii_text, push_digits};
 use super::plain_numbers::split_number;
@@ -41,10 +42,11 @@ pub(super) fn write_plain_words<R: EnumSetTypeRepr>(
 /// The bits of an array's words below the representation's width, and whether these are all their bits. The array has
 /// only whole numbers below 2^64, with spaces anywhere between its tokens. No other text is read.
 pub(super) fn read_plain_words<R: EnumSetTypeRepr>(text: &str) -> Option<WordsRead<R>>
-    ensures { IfSome result (λ found. (ws : List ℕ)
+    ensures words { IfSome result (λ found. (ws : List ℕ)
         × (read text.now ≡ Some (words_value ws))
         × (R.members found.repr ≡ low (bits_of ws) R.WIDTH)
         × (found.is_whole ≡ is_subset (bits_of ws) (below R.WIDTH))) }
+    ensures plain { IsPlainWords text.now → IsSome result }
 {
     let mut left = after_byte(text.as_bytes(), b'[')?;
     let mut words = WordsRead::new();

@@ -1,15 +1,17 @@
 //! Steps over a JSON text whose strings have no escapes: spaces byte by byte, strings sixteen bytes at a time where
 //! sixteen are left.
 
-ghost use Rattle.std.specs.Prelude.{◌≡◌, ◌≤◌, ◌+◌, ◌*◌, ◌++◌, ◌∷◌, [], IfSome, IsTrue, length, take, drop};
-ghost use Rattle.enumset.specs.JsonPlain.{IsPlain, AreSpaces, Passed};
+ghost use Rattle.std.specs.Prelude.{◌≡◌, ◌≤◌, ◌<◌, ◌+◌, ◌*◌, ◌++◌, ◌∷◌, [], ◌↔◌, ℕ, List, true, false};
+ghost use Rattle.std.specs.Prelude.{IfSome, IsTrue, length, take, drop, slice_index};
+ghost use Rattle.std.specs.Option.{IsSomeAnd};
+ghost use Rattle.enumset.specs.JsonPlain.{Begins, IsPlainByte, IsPlain, is_space, AreSpaces, Passed};
 
 use std::simd::prelude::*;
 
 /// Whether a byte needs no escape in a JSON string and does not end it.
 #[inline(always)]
 fn is_plain_byte(byte: u8) -> bool
-    ensures { IsTrue result → IsPlain (byte ∷ []) }
+    ensures { IsTrue result ↔ IsPlainByte byte }
 {
     byte != b'"' && byte != b'\\' && byte >= b' '
 }
@@ -42,6 +44,7 @@ fn are_ends_plain<const N: usize>(bytes: &[u8]) -> bool
 fn plain_len(bytes: &[u8]) -> usize
     ensures within { result ≤ length bytes.now }
     ensures plain { IsPlain (take result bytes.now) }
+    ensures most { ¬ Begins IsPlainByte (drop result bytes.now) }
 {
     for k in 0..bytes.len() / 16 {
         let before = plain_before::<16>(bytes, 16 * k);
@@ -64,6 +67,7 @@ fn plain_before<const N: usize>(bytes: &[u8], begin: usize) -> usize
     requires lanes { N ≤ 16 }
     ensures within { result ≤ N }
     ensures plain { IsPlain (take result (drop begin bytes.now)) }
+    ensures most { result < N → ¬ IsPlainByte (slice_index bytes.now (begin + result)) }
 {
     let lanes = Simd::<u8, N>::from_slice(&bytes[begin..]);
     let special = lanes.simd_eq(Simd::splat(b'"'))
@@ -77,6 +81,7 @@ fn plain_before<const N: usize>(bytes: &[u8], begin: usize) -> usize
 pub(super) fn split_spaces(bytes: &[u8]) -> (&[u8], &[u8])
     ensures whole { bytes.now ≡ result.0.now ++ result.1.now }
     ensures spaces { AreSpaces result.0.now }
+    ensures most { ¬ Begins (λ x. is_space x ≡ true) result.1.now }
 {
     for i in 0..bytes.len() {
         let byte = bytes[i];
@@ -91,7 +96,9 @@ pub(super) fn split_spaces(bytes: &[u8]) -> (&[u8], &[u8])
 /// What follows a byte, if only spaces come before it.
 #[inline(always)]
 pub(super) fn after_byte(bytes: &[u8], byte: u8) -> Option<&[u8]>
-    ensures { IfSome result (λ rest. Passed bytes.now byte rest.now) }
+    ensures passed { IfSome result (λ rest. Passed bytes.now byte rest.now) }
+    ensures found { (rest : List ℕ) → is_space byte ≡ false → Passed bytes.now byte rest
+        → IsSomeAnd result (λ r. r.now ≡ rest) }
 {
     let (first, rest) = split_spaces(bytes).1.split_first()?;
     (*first == byte).then_some(rest)
@@ -100,7 +107,7 @@ pub(super) fn after_byte(bytes: &[u8], byte: u8) -> Option<&[u8]>
 /// Whether there are only spaces.
 #[inline(always)]
 pub(super) fn are_spaces(bytes: &[u8]) -> bool
-    ensures { IsTrue result → AreSpaces bytes.now }
+    ensures { IsTrue result ↔ AreSpaces bytes.now }
 {
     split_spaces(bytes).1.is_empty()
 }
@@ -110,6 +117,8 @@ pub(super) fn are_spaces(bytes: &[u8]) -> bool
 pub(super) fn split_string(bytes: &[u8]) -> Option<(&[u8], &[u8])>
     ensures plain { IfSome result (λ parts. IsPlain parts.0.now) }
     ensures whole { IfSome result (λ parts. bytes.now ≡ parts.0.now ++ 34 ∷ parts.1.now) }
+    ensures found { (string : List ℕ) → (rest : List ℕ) → IsPlain string → bytes.now ≡ string ++ 34 ∷ rest
+        → IsSomeAnd result (λ parts. (parts.0.now ≡ string) × (parts.1.now ≡ rest)) }
 {
     let (string, rest) = bytes.split_at(plain_len(bytes));
     let (quote, rest) = rest.split_first()?;

@@ -10,7 +10,8 @@ ghost use Rattle.serde_json.specs.Written.{compact_text};
 ghost use Rattle.enumset.specs.Json.{width_of, number_value, words_value};
 ghost use Rattle.enumset.specs.Json.{set_of_number, set_of_words};
 ghost use Rattle.enumset.specs.JsonNames.{list_value, map_value, set_of_list, set_of_map};
-ghost use Rattle.enumset.specs.JsonReads.{IsReadOf};
+ghost use Rattle.enumset.specs.JsonPlain.{IsPlainNumber, IsPlainWords, IsPlainList};
+ghost use Rattle.enumset.specs.JsonReads.{value_read, IsResult, IsReadOf};
 ghost use Rattle.enumset.specs.Names.{names_of};
 ghost use Rattle.enumset.specs.declared.set_json.fault.JsonFault.TheVariants.{TooWide, OutOfMemory};
 ghost use Rattle.enumset_sets.specs.Elements.{valid_bits};
@@ -102,7 +103,9 @@ pub fn from_number_text<T: EnumSetType>(
     width: JsonWidth,
     unknown: Unknown,
 ) -> Result<EnumSet<T>, JsonFault>
-    ensures { IsReadOf (set_of_number (valid_bits T.elements) (width_of width) unknown) text.now result }
+    ensures read { IsReadOf (set_of_number (valid_bits T.elements) (width_of width) unknown) text.now result }
+    ensures plain { IsPlainNumber text.now
+        → IsResult (value_read (set_of_number (valid_bits T.elements) (width_of width) unknown) text.now) result }
 {
     match read_plain_number(text) {
         Some(number) => set_of(number, width, unknown),
@@ -118,7 +121,9 @@ pub fn from_words_text<T: EnumSetType>(
     text: &str,
     unknown: Unknown,
 ) -> Result<EnumSet<T>, JsonFault>
-    ensures { IsReadOf (set_of_words (valid_bits T.elements) unknown) text.now result }
+    ensures read { IsReadOf (set_of_words (valid_bits T.elements) unknown) text.now result }
+    ensures plain { IsPlainWords text.now
+        → IsResult (value_read (set_of_words (valid_bits T.elements) unknown) text.now) result }
 {
     match read_plain_words(text) {
         Some(words) => accepted(words, unknown),
@@ -134,7 +139,9 @@ pub fn from_list_text<T: EnumSetNames>(
     text: &str,
     unknown: Unknown,
 ) -> Result<EnumSet<T>, JsonFault>
-    ensures { IsReadOf (set_of_list (names_of T.elements T.names) unknown) text.now result }
+    ensures read { IsReadOf (set_of_list (names_of T.elements T.names) unknown) text.now result }
+    ensures plain { IsPlainList text.now
+        → IsResult (value_read (set_of_list (names_of T.elements T.names) unknown) text.now) result }
 {
     match read_plain_list(text, unknown) {
         Some(set) => set,

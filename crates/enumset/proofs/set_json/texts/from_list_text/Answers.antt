@@ -1,0 +1,13 @@
+use Rattle.std.proofs.Common.{inr}
+use Rattle.enumset.proofs.set_json.texts.from_list_text.Goals as goal
+use Rattle.serde_json.specs.Errors.{IsMemory}
+use Rattle.enumset.proofs.PlainLists.{refused}
+use Rattle.enumset.specs.JsonNames.{set_of_list}
+use Rattle.enumset.specs.Names.{names_of}
+
+pub returns-in-Some : goal.returns-in-Some
+returns-in-Some g c = record { read = inr c.in-Some.ensures.set; plain = λ _. c.in-Some.ensures.set }
+
+pub returns-in_err-from_str-in-None-clause-read : goal.returns-in_err-from_str-in-None-clause-read
+returns-in_err-from_str-in-None-clause-read g c =
+    refused (set_of_list (names_of g.T.EnumSetType.elements g.T.EnumSetNames.names) c.args.unknown) c.args.text.now c.from_residual.result (IsMemory c.in_err-from_str-in-None.field-0.0) c.from_residual.ensures.1 c.in_err-from_str-in-None.ensures.err
