@@ -1,11 +1,11 @@
 //! Steps of iterators from both ends, by the laws of asks.
 
 use crate::expect::expect;
+use enumset::EnumSet;
 use enumset::internal::ArrayRepr;
 use enumset::laws::End::{Back, Front};
 use enumset::laws::{walk_iter, walk_mixed_iter, walk_mixed_set, walk_set};
 use enumset::set::{MixedEnumSet, MixedValue};
-use enumset::EnumSet;
 use enumset_worked::{Letters, PairWords, Wide};
 
 #[test]
@@ -15,7 +15,12 @@ fn steps_answer_and_leave_the_others(rt: HostRuntime) {
     walk_iter(&mut iter, &[Back], &mut answers);
     expect(&rt, "answers", answers, [Some(Letters::G)]);
     let items = [iter.next(), iter.next(), iter.next()];
-    expect(&rt, "items", items, [Some(Letters::A), Some(Letters::C), None]);
+    expect(
+        &rt,
+        "items",
+        items,
+        [Some(Letters::A), Some(Letters::C), None],
+    );
 }
 
 #[test]
@@ -39,7 +44,12 @@ fn steps_over_words(rt: HostRuntime) {
     let (mut iter, left) = walk_set(&set, &[Back, Front], &mut answers);
     expect(&rt, "answers", answers, [Some(Wide::R), Some(Wide::P)]);
     expect(&rt, "left", left, 1);
-    expect(&rt, "items", [iter.next(), iter.next()], [Some(Wide::Q), None]);
+    expect(
+        &rt,
+        "items",
+        [iter.next(), iter.next()],
+        [Some(Wide::Q), None],
+    );
 }
 
 #[test]

@@ -1,6 +1,7 @@
 //! Tests of sets and mixed sets at the worked types: here the calls of a set that no command makes, at `letters`.
 
 mod conversions;
+mod far_bits;
 mod hashes;
 mod items;
 mod long_texts;
