@@ -1,12 +1,12 @@
-//! Laws of sets. Each is a function that does nothing at run time, except the laws of asks. Code that needs a law calls
-//! it, and the proof of that code then knows what the function ensures.
+//! Laws of sets. Each is a function that does nothing at run time, except [`bits_have_values`] and the laws of asks. Code
+//! that needs a law calls it, and the proof of that code then knows what the function ensures.
 //!
 //! This module has the laws of round trips through JSON: the value that was written for a set is read as that set. The
 //! clause `reads` of each writer of texts says that its text is read as this value, so the laws hold for texts too. The
-//! laws of numbers and words without JSON come from `enumset_sets`, the equations of sets and the laws of their order
-//! from `enumset_repr`, and all others from the modules below: what a reader of another element type reads, elements,
-//! complements, mixed sets, folds, iterators from both ends, and asks. Most laws that are about sets only are in
-//! rulesets. Rust's `enumset` has no laws.
+//! laws of members, numbers, words and hashes come from `enumset_sets`, the equations of sets and the laws of their order
+//! and of two representations from `enumset_repr`, and all others from the modules below: what a reader of another
+//! element type reads, elements, complements, mixed sets, folds, iterators from both ends, and asks. Most laws that are
+//! about sets only are in rulesets. Rust's `enumset` has no laws.
 
 ghost use Rattle.std.specs.Prelude.{◌≡◌, Ok, Some, IsTrue};
 ghost use Rattle.enumset_repr.specs.BitSet.{below, is_subset};
@@ -36,14 +36,14 @@ pub use ends::both_ends;
 pub use enumset_array::End;
 use enumset_mixed::MixedEnumSet;
 use enumset_repr::EnumSetTypeRepr;
-pub use enumset_repr::laws::{model, order};
+pub use enumset_repr::laws::{model, order, represented_in_both};
 pub use enumset_sets::laws::{
-    all_words_and_back, cut_number_and_back, cut_words_and_back, members_are_valid,
-    number_and_back, words_and_back,
+    all_words_and_back, bits_have_values, cut_number_and_back, cut_words_and_back,
+    hash_is_injective, members_are_valid, number_and_back, words_and_back,
 };
 use enumset_sets::{EnumSet, EnumSetType, EnumSetTypeWithRepr};
 pub use folds::{fold_of_elements, fold_of_sets};
-pub use mixed_sets::{unknown_kept, valid_before_invalid};
+pub use mixed_sets::{mixed_hash_is_injective, unknown_kept, valid_before_invalid};
 pub use readers::{carried_along, carried_along_in_number, older_reader, older_reader_of_names};
 
 /// The number that `to_number` writes for a set is read as that set by `from_number` at the same width, under `Drop`
