@@ -1,3 +1,5 @@
 pub mod Answered
-pub mod OneTranscript
+pub mod Composed
 pub mod Cuts
+pub mod OneTranscript
+pub mod WordsLeave

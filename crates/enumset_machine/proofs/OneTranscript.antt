@@ -7,14 +7,16 @@ use Rattle.enumset_commands.specs.declared.command.Command.TheVariants.{FromNumb
 use Rattle.enumset_commands.specs.declared.mixed_command.MixedCommand.{MixedCommand}
 use Rattle.enumset_commands.specs.declared.mixed_command.MixedCommand.TheVariants.{Common, InsertBit, FullComplement}
 use Rattle.enumset_commands.specs.declared.reply.Refusal.{Refusal}
+use Rattle.enumset_commands.specs.declared.reply.Reply.TheVariants.{Done}
 use Rattle.enumset_repr.specs.BitSet.{BitSet, contains, only, below, intersection, is_subset}
 use Rattle.enumset_repr.specs.Laws.Algebra.{intersection_within}
 use Rattle.enumset_repr.specs.Laws.Members.{members, is_subset_contains}
 use Rattle.enumset_repr.specs.Laws.Widths.{is_subset_wider}
 use Rattle.enumset_repr.specs.Number.{bits}
 use Rattle.enumset_repr.specs.Words.{bits_of}
-use Rattle.enumset_machine.specs.Plans.{Rules, width_rules, Plan, refusal, outcome_unless, outcome_by, replies_by}
-use Rattle.enumset_machine.specs.Runs.{plan, mixed_plan, mixed_outcome, mixed_replies, is_within}
+use Rattle.enumset_machine.specs.MixedRuns.{mixed_plan, mixed_outcome, mixed_replies, is_name_within, is_within}
+use Rattle.enumset_machine.specs.Plans.{Rules, width_rules, Name, SetAt, IteratorAt, ValidBit, AllowedBit, AnyBit, Width, Value, WordsOf, Plan, refusal, outcome_unless, outcome_by, replies_by}
+use Rattle.enumset_machine.specs.Runs.{plan}
 use Rattle.enumset_machine.specs.States.{State, start, put_set}
 
 both : (a b : Bool) → (a && b) ≡ true → (a ≡ true) × (b ≡ true)
@@ -24,41 +26,72 @@ both false b h = absurd (cc)
 bit_within : (bit n : ℕ) → is_subset (only bit) (below n) ≡ true → contains (below n) bit ≡ true
 bit_within bit n within = is_subset_contains (only bit) (below n) within bit (grind (arith, members))
 
--- plans with the same refusal, the same reply and the same state afterwards
-unless_same : (refused : Option Refusal) (a b : Rules) (s : State) (p : Plan) → p.reply a s ≡ p.reply b s → p.after a s ≡ p.after b s → outcome_unless refused a s p ≡ outcome_unless refused b s p
-unless_same (Some refused) a b s p reply after = refl
-unless_same None a b s p reply after = cc
+-- plans with the same refusal and the same effect
+unless_same : (refused : Option Refusal) (a b : Rules) (s : State) (p : Plan) → p.effect a s ≡ p.effect b s → outcome_unless refused a s p ≡ outcome_unless refused b s p
+unless_same (Some refused) a b s p effect = refl
+unless_same None a b s p effect = ap (λ e. record { reply = e.0; state = e.1 }) effect
 
-plan_same : (a b : Rules) (s : State) (p : Plan) → refusal a p ≡ refusal b p → p.reply a s ≡ p.reply b s → p.after a s ≡ p.after b s → outcome_unless (refusal a p) a s p ≡ outcome_unless (refusal b p) b s p
-plan_same a b s p refused reply after =
-    ap (λ r. outcome_unless r a s p) refused ∙ unless_same (refusal b p) a b s p reply after
+plan_same : (a b : Rules) (s : State) (p : Plan) → refusal a p ≡ refusal b p → p.effect a s ≡ p.effect b s → outcome_unless (refusal a p) a s p ≡ outcome_unless (refusal b p) b s p
+plan_same a b s p refused effect =
+    ap (λ r. outcome_unless r a s p) refused ∙ unless_same (refusal b p) a b s p effect
 
 cut_same : (s : BitSet) (one other : ℕ) → is_subset s (below one) ≡ true → is_subset s (below other) ≡ true → intersection s (below one) ≡ intersection s (below other)
 cut_same s one other h k = intersection_within s (below one) h ∙ sym (intersection_within s (below other) k)
 
+-- the last name of a command
+last_within : (b : Bool) → (b && true) ≡ true → b ≡ true
+last_within b h = (both b true h).0
+
 -- a command of every run depends on the allowed bits only if it has a number or words
-command_same : (valid : BitSet) (one other : ℕ) (s : State) (c : Command) → is_subset (plan c).input (below one) ≡ true → is_subset (plan c).input (below other) ≡ true → outcome_by (width_rules valid one) plan s c ≡ outcome_by (width_rules valid other) plan s c
+command_same : (valid : BitSet) (one other : ℕ) (s : State) (c : Command) → list_all (is_name_within one) (plan c).names ≡ true → list_all (is_name_within other) (plan c).names ≡ true → outcome_by (width_rules valid one) plan s c ≡ outcome_by (width_rules valid other) plan s c
 unfolding plan
 command_same valid one other s (FromNumber r width value) h k =
-    plan_same _ _ s (plan (FromNumber r width value)) refl (rw (h, k) refl) (rw (h, k) refl)
+    let in_one = last_within (is_subset (bits value) (below one)) h in
+    let in_other = last_within (is_subset (bits value) (below other)) k in
+    plan_same _ _ s (plan (FromNumber r width value)) refl (rw (in_one, in_other) refl)
 command_same valid one other s (FromNumberCut r width value) h k =
-    plan_same _ _ s (plan (FromNumberCut r width value)) refl refl (ap (put_set s r) (cut_same (bits value) one other h k))
-command_same valid one other s (FromWords r ws) h k = plan_same _ _ s (plan (FromWords r ws)) refl (rw (h, k) refl) (rw (h, k) refl)
+    let in_one = last_within (is_subset (bits value) (below one)) h in
+    let in_other = last_within (is_subset (bits value) (below other)) k in
+    plan_same _ _ s (plan (FromNumberCut r width value)) refl (ap (λ new. (Done, put_set s r new)) (cut_same (bits value) one other in_one in_other))
+command_same valid one other s (FromWords r ws) h k =
+    let in_one = last_within (is_subset (bits_of ws) (below one)) h in
+    let in_other = last_within (is_subset (bits_of ws) (below other)) k in
+    plan_same _ _ s (plan (FromWords r ws)) refl (rw (in_one, in_other) refl)
 command_same valid one other s (FromWordsCut r ws) h k =
-    plan_same _ _ s (plan (FromWordsCut r ws)) refl refl (ap (put_set s r) (cut_same (bits_of ws) one other h k))
-command_same valid one other s c h k = plan_same (width_rules valid one) (width_rules valid other) s (plan c) refl refl refl
+    let in_one = last_within (is_subset (bits_of ws) (below one)) h in
+    let in_other = last_within (is_subset (bits_of ws) (below other)) k in
+    plan_same _ _ s (plan (FromWordsCut r ws)) refl (ap (λ new. (Done, put_set s r new)) (cut_same (bits_of ws) one other in_one in_other))
+command_same valid one other s c h k = plan_same (width_rules valid one) (width_rules valid other) s (plan c) refl refl
 
 mixed_same : (valid : BitSet) (one other : ℕ) (s : State) (c : MixedCommand) → is_within one c ≡ true → is_within other c ≡ true → mixed_outcome valid one s c ≡ mixed_outcome valid other s c
 unfolding mixed_outcome mixed_plan
 mixed_same valid one other s (Common c) h k = command_same valid one other s c h k
 mixed_same valid one other s (InsertBit r bit) h k =
-    plan_same _ _ s (mixed_plan (InsertBit r bit)) (rw (bit_within bit one h, bit_within bit other k) refl) refl refl
+    let in_one = bit_within bit one (last_within (is_subset (only bit) (below one)) h) in
+    let in_other = bit_within bit other (last_within (is_subset (only bit) (below other)) k) in
+    plan_same _ _ s (mixed_plan (InsertBit r bit)) (rw (in_one, in_other) refl) refl
 mixed_same valid one other s (FullComplement to a) h k = absurd (cc)
-mixed_same valid one other s c h k = plan_same (width_rules valid one) (width_rules valid other) s (mixed_plan c) refl refl refl
+mixed_same valid one other s c h k = plan_same (width_rules valid one) (width_rules valid other) s (mixed_plan c) refl refl
+
+name_wider : (m n : ℕ) (name : Name) → m ≤ n → is_name_within m name ≡ true → is_name_within n name ≡ true
+name_wider m n (SetAt r) le within = refl
+name_wider m n (IteratorAt i) le within = refl
+name_wider m n (ValidBit bit) le within = is_subset_wider (only bit) m n le within
+name_wider m n (AllowedBit bit) le within = is_subset_wider (only bit) m n le within
+name_wider m n (AnyBit bit) le within = is_subset_wider (only bit) m n le within
+name_wider m n (Width width) le within = refl
+name_wider m n (Value width value) le within = is_subset_wider (bits value) m n le within
+name_wider m n (WordsOf ws) le within = is_subset_wider (bits_of ws) m n le within
+
+names_wider : (m n : ℕ) (names : List Name) → m ≤ n → list_all (is_name_within m) names ≡ true → list_all (is_name_within n) names ≡ true
+names_wider m n [] le within = refl
+names_wider m n (name ∷ names) le within =
+    let parts = both (is_name_within m name) (list_all (is_name_within m) names) within in
+    rw (name_wider m n name le parts.0, names_wider m n names le parts.1) refl
 
 is_within-wider : (m n : ℕ) (c : MixedCommand) → m ≤ n → is_within m c ≡ true → is_within n c ≡ true
 is_within-wider m n (FullComplement to a) le within = within
-is_within-wider m n c le within = is_subset_wider (mixed_plan c).input m n le within
+is_within-wider m n c le within = names_wider m n (mixed_plan c).names le within
 
 -- each command has the same outcome at both widths, so the next one starts from the same state
 replies_same : (valid : BitSet) (one other m : ℕ) (s : State) (commands : List MixedCommand) → m ≤ one → m ≤ other → list_all (is_within m) commands ≡ true → replies_by (mixed_outcome valid one) s commands ≡ replies_by (mixed_outcome valid other) s commands

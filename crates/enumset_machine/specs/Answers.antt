@@ -7,7 +7,8 @@ use Rattle.enumset_repr.specs.BitSet.{BitSet}
 use Rattle.enumset_commands.specs.declared.reply.Reply.{Reply}
 use Rattle.enumset_commands.specs.declared.text_fault.TextFault.{TextFault}
 use Rattle.enumset_commands.specs.declared.text_fault.TextFault.TheVariants.{TooLong}
-use Rattle.enumset_machine.specs.Runs.{replies, mixed_replies}
+use Rattle.enumset_machine.specs.Runs.{replies}
+use Rattle.enumset_machine.specs.MixedRuns.{mixed_replies}
 use Rattle.enumset_commands.specs.Lines.{command_of, commands_of_text, mixed_command_of}
 use Rattle.enumset_commands.specs.Texts.{text}
 

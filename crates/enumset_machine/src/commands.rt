@@ -1,20 +1,21 @@
 //! The commands of every run: why one is refused, and how it is carried out. Runs over sets have only these.
 
-ghost use Rattle.std.specs.Prelude.{◌≡◌, ◌^◌, ◌&&◌, nat_lt, Some, None, if◌then◌else◌, true, false, IsOk, IfOk, OnOk, OnErr};
-ghost use Rattle.enumset_machine.specs.Plans.{is_width, refusal, takes_memory};
+ghost use Rattle.std.specs.Prelude.{◌≡◌, ◌^◌, ◌&&◌, nat_lt, Some, None, if◌then◌else◌, true};
+ghost use Rattle.std.specs.List.{list_all};
+ghost use Rattle.enumset_machine.specs.Plans.{is_register, is_number, is_bit, is_width, refusal};
+ghost use Rattle.enumset_machine.specs.Replies.{reply_by};
 ghost use Rattle.enumset_machine.specs.Runs.{plan};
 
+use crate::answer::Answer;
 use crate::machine::{
-    MachineOver, are_set_registers, is_iterator_register, is_set_register, number_reply,
-    words_cut_reply, words_reply,
+    MachineOver, are_set_registers, is_iterator_register, is_set_register, number_answer,
+    words_answer,
 };
 use crate::run_set::RunSet;
 use crate::runs::Commands;
 use enumset_commands::Command::{self, *};
 use enumset_commands::Refusal::{self, NoRegister, NotABit, NotAWidth};
-use enumset_commands::Reply;
 use enumset_sets::{EnumSet, EnumSetType};
-use std::alloc::{AllocError, Global};
 
 impl<T: EnumSetType> Commands for EnumSet<T> {
     type Command = Command;
@@ -25,12 +26,8 @@ impl<T: EnumSetType> Commands for EnumSet<T> {
         refusal_of_common::<EnumSet<T>>(command)
     }
 
-    fn carry_out(
-        machine: &mut MachineOver<EnumSet<T>>,
-        alloc: Global,
-        command: &Command,
-    ) -> Result<Reply, AllocError> {
-        carry_out_common(machine, alloc, command)
+    fn carry_out(machine: &mut MachineOver<EnumSet<T>>, command: &Command) -> Answer<EnumSet<T>> {
+        carry_out_common(machine, command)
     }
 }
 
@@ -79,18 +76,16 @@ pub(crate) fn refusal_of_common<S: RunSet>(command: &Command) -> Option<Refusal>
 #[tactic(auto, unfolding(crate::specs::Runs::plan))]
 pub(crate) fn carry_out_common<S: RunSet>(
     machine: &mut MachineOver<S>,
-    alloc: Global,
     command: &Command,
-) -> Result<Reply, AllocError>
-    requires registers { (plan command.now).registers ≡ true }
-    requires widths { (plan command.now).widths ≡ true }
-    requires bits { (plan command.now).bits S.rules ≡ true }
-    ensures succeeds { takes_memory ((plan command.now).reply S.rules machine.old) ≡ false → IsOk result }
-    ensures reply { IfOk result (λ reply. reply ≡ (plan command.now).reply S.rules machine.old) }
-    ensures state { OnOk result (machine.new ≡ (plan command.now).after S.rules machine.old) }
-    ensures err { OnErr result (machine.new ≡ machine.old) }
+) -> Answer<S>
+    requires registers { list_all is_register (plan command.now).names ≡ true }
+    requires numbers { list_all is_number (plan command.now).names ≡ true }
+    requires bits { list_all (is_bit S.rules) (plan command.now).names ≡ true }
+    ensures reply { reply_by S.members result
+        ≡ ((plan command.now).effect S.rules machine.old).0 }
+    ensures state { machine.new ≡ ((plan command.now).effect S.rules machine.old).1 }
 {
-    Ok(match *command {
+    match *command {
         New { r } => machine.put(r, S::new()),
         All { r } => machine.put(r, S::all()),
         Only { r, bit } => machine.put(r, S::only(bit)),
@@ -104,14 +99,14 @@ pub(crate) fn carry_out_common<S: RunSet>(
             let was_member = set.remove(bit);
             machine.replace(r, set, was_member)
         }
-        Contains { r, bit } => Reply::Truth(machine.get(r).contains(bit)),
+        Contains { r, bit } => Answer::Truth(machine.get(r).contains(bit)),
         Clear { r } => {
             let mut set = machine.get(r);
             set.clear();
             machine.put(r, set)
         }
-        Len { r } => Reply::Count(machine.get(r).len() as u64),
-        IsEmpty { r } => Reply::Truth(machine.get(r).is_empty()),
+        Len { r } => Answer::Count(machine.get(r).len() as u64),
+        IsEmpty { r } => Answer::Truth(machine.get(r).is_empty()),
         Union { to, a, b } => machine.put(to, machine.get(a).union(machine.get(b))),
         Intersection { to, a, b } => machine.put(to, machine.get(a).intersection(machine.get(b))),
         Difference { to, a, b } => machine.put(to, machine.get(a).difference(machine.get(b))),
@@ -129,24 +124,27 @@ pub(crate) fn carry_out_common<S: RunSet>(
             set.remove_all(machine.get(a));
             machine.put(r, set)
         }
-        Disjoint { a, b } => Reply::Truth(machine.get(a).is_disjoint(machine.get(b))),
-        Superset { a, b } => Reply::Truth(machine.get(a).is_superset(machine.get(b))),
-        Subset { a, b } => Reply::Truth(machine.get(a).is_subset(machine.get(b))),
-        Equal { a, b } => Reply::Truth(machine.get(a).is_same(machine.get(b))),
-        Compare { a, b } => Reply::Order(machine.get(a).compare(machine.get(b))),
-        Number { r, width } => number_reply(machine.get(r), width),
-        NumberCut { r, width } => Reply::Number(machine.get(r).number_cut(width)),
+        Disjoint { a, b } => Answer::Truth(machine.get(a).is_disjoint(machine.get(b))),
+        Superset { a, b } => Answer::Truth(machine.get(a).is_superset(machine.get(b))),
+        Subset { a, b } => Answer::Truth(machine.get(a).is_subset(machine.get(b))),
+        Equal { a, b } => Answer::Truth(machine.get(a).is_same(machine.get(b))),
+        Compare { a, b } => Answer::Order(machine.get(a).compare(machine.get(b))),
+        Number { r, width } => number_answer(machine.get(r), width),
+        NumberCut { r, width } => Answer::Number(machine.get(r).number_cut(width)),
         FromNumber { r, width, value } => machine.put_number(r, width, value),
         FromNumberCut { r, width, value } => machine.put(r, S::from_number_cut(width, value)),
-        Words { r, count } => words_reply(alloc, machine.get(r), count)?,
-        WordsCut { r, count } => words_cut_reply(alloc, machine.get(r), count)?,
+        Words { r, count } => words_answer(machine.get(r), count),
+        WordsCut { r, count } => Answer::Words {
+            set: machine.get(r),
+            count,
+        },
         FromWords { r, ref words } => machine.put_words(r, words),
         FromWordsCut { r, ref words } => machine.put(r, S::from_words_cut(words.as_slice())),
         Iter { i, r } => machine.iterate(i, r),
         Next { i } => machine.next(i),
         NextBack { i } => machine.next_back(i),
         Left { i } => machine.left(i),
-    })
+    }
 }
 
 /// This refusal, unless the condition holds.

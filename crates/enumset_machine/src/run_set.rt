@@ -11,8 +11,9 @@ ghost use Rattle.enumset_repr.specs.Words.{words, bits_of};
 ghost use Rattle.enumset_repr.specs.Ends.{first, last, without_first, without_last};
 ghost use Rattle.enumset_repr.specs.Order.{compare};
 ghost use Rattle.enumset_machine.specs.Plans.{Rules, is_width};
+ghost use Rattle.enumset_machine.specs.Replies.{reply_by};
 
-use enumset_commands::Reply;
+use crate::answer::Answer;
 use std::cmp::Ordering;
 
 /// A set of a run, with the calls that commands need. They take the bit of an element instead of the element, so a run
@@ -34,9 +35,9 @@ pub trait RunSet: Copy {
     fn is_bit_valid(bit: u32) -> bool
         ensures { result ≡ set.contains rules.valid bit };
 
-    /// Returns the reply to a step that yields a bit.
-    fn bit_reply(bit: u32) -> Reply
-        ensures { result ≡ rules.bit_reply bit };
+    /// Returns the answer to a step that yields a bit.
+    fn bit_answer(bit: u32) -> Answer<Self>
+        ensures { reply_by members result ≡ rules.bit_reply bit };
 
     /// Returns the empty set.
     fn new() -> Self

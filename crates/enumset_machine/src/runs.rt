@@ -1,12 +1,16 @@
 //! Runs of commands, over sets and over mixed sets.
 
-ghost use Rattle.std.specs.Prelude.{◌≡◌, true, false, IsOk, IfOk, OnOk, OnErr};
+ghost use Rattle.std.specs.Prelude.{◌≡◌, true, map, length, IfOk};
+ghost use Rattle.std.specs.List.{list_all};
 ghost use Rattle.enumset_machine.specs.States.{start};
-ghost use Rattle.enumset_machine.specs.Plans.{Plan, outcome_by, refusal, replies_by, takes_memory};
-ghost use Rattle.enumset_machine.specs.Runs.{replies, mixed_replies};
+ghost use Rattle.enumset_machine.specs.Plans.{Plan, is_register, is_number, is_bit, outcome_by, refusal, replies_by, state_after};
+ghost use Rattle.enumset_machine.specs.Replies.{reply_by, reply_of};
+ghost use Rattle.enumset_machine.specs.Runs.{outcome, replies};
+ghost use Rattle.enumset_machine.specs.MixedRuns.{mixed_outcome, mixed_replies};
 ghost use Rattle.enumset_sets.specs.Elements.{valid_bits};
 
-use crate::machine::MachineOver;
+use crate::answer::Answer;
+use crate::machine::{Machine, MachineOver, MixedMachine};
 use crate::run_set::RunSet;
 use enumset_commands::{Command, MixedCommand, Refusal, Reply};
 use enumset_mixed::MixedEnumSet;
@@ -14,8 +18,44 @@ use enumset_repr::EnumSetTypeRepr;
 use enumset_sets::{EnumSet, EnumSetType, EnumSetTypeWithRepr};
 use std::alloc::{AllocError, Global};
 
+/// Carries out commands in order, and writes the answer to each: its reply is the one over finite sets of bit numbers.
+/// The state of the machine is then the one that the commands leave. There are as many answers as commands.
+#[tactic(auto, unfolding(crate::specs::Runs::outcome))]
+pub fn run_into<T: EnumSetType>(
+    machine: &mut Machine<T>,
+    commands: &[Command],
+    answers: &mut [Answer<EnumSet<T>>],
+)
+    requires { length commands.now ≡ length answers.old }
+    ensures answers { map reply_of answers.new
+        ≡ replies_by (outcome (valid_bits T.elements)) machine.old commands.now }
+    ensures state { machine.new
+        ≡ state_after (outcome (valid_bits T.elements)) machine.old commands.now }
+{
+    answer_each(machine, commands, answers);
+}
+
+/// Carries out commands of mixed sets in order, and writes the answer to each, as [`run_into`] does: its reply is the
+/// one over finite sets of bit numbers below the width of the representation.
+#[tactic(auto, unfolding(crate::specs::MixedRuns::mixed_outcome))]
+pub fn run_mixed_into<T: EnumSetTypeWithRepr>(
+    machine: &mut MixedMachine<T>,
+    commands: &[MixedCommand],
+    answers: &mut [Answer<MixedEnumSet<T>>],
+)
+    requires { length commands.now ≡ length answers.old }
+    ensures answers { map reply_of answers.new
+        ≡ replies_by (mixed_outcome (valid_bits T.elements) T.Repr.WIDTH)
+        machine.old commands.now }
+    ensures state { machine.new
+        ≡ state_after (mixed_outcome (valid_bits T.elements) T.Repr.WIDTH)
+        machine.old commands.now }
+{
+    answer_each(machine, commands, answers);
+}
+
 /// Carries out commands in order on a new machine, and returns one reply for each: the reply over finite sets of bit
-/// numbers. The only error is out of memory.
+/// numbers. The only error is out of memory, of the list of replies or of one with words.
 #[tactic(auto, unfolding(crate::specs::Runs::outcome))]
 pub fn run<T: EnumSetType>(alloc: Global, commands: &[Command]) -> Result<Vec<Reply>, AllocError>
     ensures { IfOk result (λ out. out.items ≡ replies (valid_bits T.elements) commands.now) }
@@ -24,8 +64,8 @@ pub fn run<T: EnumSetType>(alloc: Global, commands: &[Command]) -> Result<Vec<Re
 }
 
 /// Carries out commands of mixed sets in order on a new machine, and returns one reply for each: the reply over finite
-/// sets of bit numbers below the width of the representation. The only error is out of memory.
-#[tactic(auto, unfolding(crate::specs::Runs::mixed_outcome))]
+/// sets of bit numbers below the width of the representation. The only error is out of memory, as for [`run`].
+#[tactic(auto, unfolding(crate::specs::MixedRuns::mixed_outcome))]
 pub fn run_mixed<T: EnumSetTypeWithRepr>(
     alloc: Global,
     commands: &[MixedCommand],
@@ -49,20 +89,13 @@ pub trait Commands: RunSet {
         ensures { result ≡ refusal Self.rules (plan command.now) };
 
     /// Carries out a command that is not refused.
-    fn carry_out(
-        machine: &mut MachineOver<Self>,
-        alloc: Global,
-        command: &Self::Command,
-    ) -> Result<Reply, AllocError>
-        requires registers { (plan command.now).registers ≡ true }
-        requires widths { (plan command.now).widths ≡ true }
-        requires bits { (plan command.now).bits Self.rules ≡ true }
-        ensures succeeds { takes_memory ((plan command.now).reply Self.rules machine.old)
-            ≡ false → IsOk result }
-        ensures reply { IfOk result (λ reply.
-            reply ≡ (plan command.now).reply Self.rules machine.old) }
-        ensures state { OnOk result (machine.new ≡ (plan command.now).after Self.rules machine.old) }
-        ensures err { OnErr result (machine.new ≡ machine.old) };
+    fn carry_out(machine: &mut MachineOver<Self>, command: &Self::Command) -> Answer<Self>
+        requires registers { list_all is_register (plan command.now).names ≡ true }
+        requires numbers { list_all is_number (plan command.now).names ≡ true }
+        requires bits { list_all (is_bit Self.rules) (plan command.now).names ≡ true }
+        ensures reply { reply_by Self.members result
+            ≡ ((plan command.now).effect Self.rules machine.old).0 }
+        ensures state { machine.new ≡ ((plan command.now).effect Self.rules machine.old).1 };
 }
 
 /// Carries out commands in order from empty registers, with one reply for each. The only error is out of memory.
@@ -70,29 +103,49 @@ fn run_over<S: Commands>(alloc: Global, commands: &[S::Command]) -> Result<Vec<R
     ensures { IfOk result (λ out. out.items
         ≡ replies_by (outcome_by S.rules S.plan) start commands.now) }
 {
-    let mut machine = MachineOver::<S>::new();
-    let mut replies = Vec::with_capacity(alloc, commands.len())?;
-    for command in commands {
-        replies.push(reply_to(&mut machine, alloc, command)?)?;
-    }
-    Ok(replies)
+    let mut answers = vec![in alloc; Answer::<S>::Done; commands.len()]?;
+    answer_each(&mut MachineOver::<S>::new(), commands, &mut answers);
+    replies_to(alloc, &answers)
 }
 
-/// Carries out one command, if it is not refused, and returns the reply. A refused command changes nothing. Only a reply
-/// of words takes memory.
-pub(crate) fn reply_to<S: Commands>(
+/// Carries out commands in order, and writes the answer to each.
+fn answer_each<S: Commands>(
     machine: &mut MachineOver<S>,
-    alloc: Global,
+    commands: &[S::Command],
+    answers: &mut [Answer<S>],
+)
+    requires { length commands.now ≡ length answers.old }
+    ensures answers { map (reply_by S.members) answers.new
+        ≡ replies_by (outcome_by S.rules S.plan) machine.old commands.now }
+    ensures state { machine.new
+        ≡ state_after (outcome_by S.rules S.plan) machine.old commands.now }
+{
+    for (i, command) in commands.iter().enumerate() {
+        answers[i] = answer_to(machine, command);
+    }
+}
+
+/// Carries out one command, if it is not refused, and returns its answer. A refused command changes nothing.
+pub(crate) fn answer_to<S: Commands>(
+    machine: &mut MachineOver<S>,
     command: &S::Command,
-) -> Result<Reply, AllocError>
-    ensures succeeds { takes_memory (outcome_by S.rules S.plan machine.old command.now).reply
-        ≡ false → IsOk result }
-    ensures step { IfOk result (λ reply. outcome_by S.rules S.plan machine.old command.now
-        ≡ record { reply = reply; state = machine.new }) }
-    ensures err { OnErr result (machine.new ≡ machine.old) }
+) -> Answer<S>
+    ensures { outcome_by S.rules S.plan machine.old command.now
+        ≡ record { reply = reply_by S.members result; state = machine.new } }
 {
     match S::refusal_of(command) {
-        Some(refusal) => Ok(Reply::Refused(refusal)),
-        None => S::carry_out(machine, alloc, command),
+        Some(refusal) => Answer::Refused(refusal),
+        None => S::carry_out(machine, command),
     }
+}
+
+/// The replies of answers. The only error is out of memory.
+fn replies_to<S: RunSet>(alloc: Global, answers: &[Answer<S>]) -> Result<Vec<Reply>, AllocError>
+    ensures { IfOk result (λ out. out.items ≡ map (reply_by S.members) answers.now) }
+{
+    let mut replies = Vec::with_capacity(alloc, answers.len())?;
+    for answer in answers {
+        replies.push(answer.to_reply(alloc)?)?;
+    }
+    Ok(replies)
 }

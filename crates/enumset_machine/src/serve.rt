@@ -10,10 +10,11 @@ ghost use Rattle.enumset_commands.specs.Texts.{IsFaultOf, text_of};
 ghost use Rattle.enumset_sets.specs.Elements.{valid_bits};
 
 use crate::machine::MachineOver;
-use crate::runs::{Commands, reply_to};
+use crate::runs::{Commands, answer_to};
+use crate::transcript::write_answer;
 use enumset_commands::grammar::lines::Lines;
 use enumset_commands::grammar::tokens::Tokens;
-use enumset_commands::{LineCommand, TextFault, write_reply};
+use enumset_commands::{LineCommand, TextFault};
 use enumset_mixed::MixedEnumSet;
 use enumset_repr::EnumSetTypeRepr;
 use enumset_sets::{EnumSet, EnumSetType, EnumSetTypeWithRepr};
@@ -42,7 +43,7 @@ pub fn serve_text<T: EnumSetType>(alloc: Global, input: &[u8]) -> Result<Vec<u8>
 /// Returns the text of the replies to the commands of mixed sets of an input.
 ///
 /// The errors are as for [`serve_text`].
-#[tactic(auto, unfolding(crate::specs::Runs::mixed_outcome))]
+#[tactic(auto, unfolding(crate::specs::MixedRuns::mixed_outcome))]
 pub fn serve_mixed_text<T: EnumSetTypeWithRepr>(
     alloc: Global,
     input: &[u8],
@@ -95,8 +96,7 @@ where
         if let Some(name) = tokens.next() {
             let command = S::Command::read(alloc, name, tokens).ok_or(TextFault::BadLine(number))?;
             has_room = match command {
-                Ok(command) => has_room
-                    && answer_command(alloc, &mut machine, command, &mut text).is_ok(),
+                Ok(command) => has_room && answer_command(&mut machine, command, &mut text).is_ok(),
                 Err(_) => false,
             };
         }
@@ -108,20 +108,18 @@ where
     }
 }
 
-/// Carries out one command, and writes its reply in a line.
+/// Carries out one command, and writes its reply in a line. Only the text takes memory.
 fn answer_command<S: Commands>(
-    alloc: Global,
     machine: &mut MachineOver<S>,
     command: S::Command,
     text: &mut String,
 ) -> Result<(), AllocError>
 where
     S::Command: LineCommand,
-    ensures state { OnOk result
-        (machine.new ≡ (outcome_by S.rules S.plan machine.old command).state) }
+    ensures state { machine.new ≡ (outcome_by S.rules S.plan machine.old command).state }
     ensures text { OnOk result (string_bytes text.new ≡ string_bytes text.old
         ++ text_of (outcome_by S.rules S.plan machine.old command).reply ++ codes "\n") }
 {
-    let reply = reply_to(machine, alloc, &command)?;
-    write_reply(text, &reply)
+    let answer = answer_to(machine, &command);
+    write_answer(text, &answer)
 }

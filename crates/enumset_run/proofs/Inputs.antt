@@ -6,7 +6,8 @@ use Rattle.enumset_commands.specs.declared.text_fault.TextFault.{TextFault}
 use Rattle.enumset_commands.specs.declared.text_fault.TextFault.TheVariants.{TooLong}
 use Rattle.enumset_repr.specs.BitSet.{BitSet, from_list}
 use Rattle.enumset_machine.specs.Answers.{commands_of, answer_by}
-use Rattle.enumset_machine.specs.Runs.{replies, mixed_replies}
+use Rattle.enumset_machine.specs.Runs.{replies}
+use Rattle.enumset_machine.specs.MixedRuns.{mixed_replies}
 use Rattle.enumset_machine.specs.WorkedTypes.{over, answer_by_width, answer_over}
 use Rattle.enumset_machine.specs.declared.serve.TheConstants.{INPUT_LIMIT}
 use Rattle.enumset_machine.specs.declared.worked.Worked.{Worked}

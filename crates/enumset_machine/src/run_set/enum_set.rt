@@ -5,7 +5,7 @@ ghost use Rattle.enumset_repr.specs.BitSet as set;
 ghost use Rattle.enumset_sets.specs.Elements.{valid_bits};
 
 use super::RunSet;
-use enumset_commands::Reply;
+use crate::answer::Answer;
 use enumset_repr::EnumSetTypeRepr;
 use enumset_sets::{EnumSet, EnumSetIter, EnumSetType};
 use std::cmp::Ordering;
@@ -33,8 +33,8 @@ impl<T: EnumSetType> RunSet for EnumSet<T> {
         EnumSet::<T>::is_bit_valid(bit)
     }
 
-    fn bit_reply(bit: u32) -> Reply {
-        Reply::Bit(bit)
+    fn bit_answer(bit: u32) -> Answer<Self> {
+        Answer::Bit(bit)
     }
 
     fn new() -> Self {

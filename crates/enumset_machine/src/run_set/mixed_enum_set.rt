@@ -6,7 +6,7 @@ ghost use Rattle.enumset_sets.specs.Elements.{valid_bits};
 
 use super::RunSet;
 use super::enum_set::element_of;
-use enumset_commands::Reply;
+use crate::answer::Answer;
 use enumset_mixed::{MixedEnumSet, MixedEnumSetIter, MixedValue};
 use enumset_repr::EnumSetTypeRepr;
 use enumset_sets::{EnumSetType, EnumSetTypeWithRepr};
@@ -27,11 +27,11 @@ impl<T: EnumSetTypeWithRepr> RunSet for MixedEnumSet<T> {
         MixedEnumSet::<T>::is_bit_valid(bit)
     }
 
-    fn bit_reply(bit: u32) -> Reply {
+    fn bit_answer(bit: u32) -> Answer<Self> {
         if MixedEnumSet::<T>::is_bit_valid(bit) {
-            Reply::Bit(bit)
+            Answer::Bit(bit)
         } else {
-            Reply::Unknown(bit)
+            Answer::Unknown(bit)
         }
     }
 

@@ -2,7 +2,7 @@
 
 ghost use Rattle.std.specs.Prelude.{◌≡◌, IsTrue, IfOk, min};
 ghost use Rattle.std.specs.List.{list_all};
-ghost use Rattle.enumset_machine.specs.Runs.{is_within};
+ghost use Rattle.enumset_machine.specs.MixedRuns.{is_within};
 ghost use Rattle.enumset_sets.specs.Elements.{valid_bits};
 
 use enumset_commands::{MixedCommand, Reply};

@@ -1,7 +1,7 @@
 use Rattle.std.proofs.Common.{◌≡◌, false, refl, sym, ◌∙◌}
 use Rattle.enumset_repr.specs.BitSet.{contains}
 use Rattle.enumset_sets.specs.Elements.{valid_bits}
-use Rattle.enumset_machine.proofs.run_set.mixed_enum_set.MixedEnumSetRunSet.bit_reply.Goals as goal
+use Rattle.enumset_machine.proofs.run_set.mixed_enum_set.MixedEnumSetRunSet.bit_answer.Goals as goal
 
 pub returns-else-is_bit_valid : goal.returns-else-is_bit_valid
 returns-else-is_bit_valid g c =
