@@ -1,19 +1,26 @@
 -- Least fixed points of steps from sets to sets: what is reached in any number of steps, what follows from what.
 --     union_over      the union of the sets that the members of a set lead to
+--     leading_to      the numbers of a set that lead to some member of another set
 --     IsMonotone      a step that leads to no less from more
 --     IsClosed      a set that a step does not leave
 --     IsReached      a set that has a start, and is in each closed set that has it
 --     IsLeastClosed      the least closed set that has a start
 --     IsWorklist      the members done and those pending, of a search from a start
+--     IsPass      what is reached within a pass over numbers, each of which is added if the step leads to it
 --     IsReachable      a number of a start, or one to which a reachable number leads
+--     LeadsBy      a closure that returns to which elements its argument leads
 use Rattle.std.specs.Fn.{Shared}
-use Rattle.std.specs.Prelude.{◌≡◌, ℕ, true, map}
-use Rattle.enumset_repr.specs.BitSet.{BitSet, contains, ascending, union, is_subset, is_disjoint}
+use Rattle.std.specs.Prelude.{◌≡◌, ℕ, true, not, map}
+use Rattle.enumset_repr.specs.BitSet.{BitSet, contains, ascending, retain, union, difference, is_subset, is_disjoint}
 use Rattle.enumset_sets.specs.Folds.{union_all}
 
 -- the union of the sets that the members of a set lead to: rows says to which each number leads
 unfoldable pub union_over : (ℕ → BitSet) → BitSet → BitSet
 union_over rows s = union_all (map rows (ascending s))
+
+-- the numbers of a set that lead to some member of s
+unfoldable pub leading_to : BitSet → (ℕ → BitSet) → BitSet → BitSet
+leading_to all rows s = retain all (λ b. not (is_disjoint (rows b) s))
 
 -- from more, the step leads to no less
 pub record IsMonotone (step : BitSet → BitSet) : Type 0 where
@@ -39,6 +46,13 @@ pub record IsWorklist (rows : ℕ → BitSet) (start done pending : BitSet) : Ty
   pub reached : IsReached (union_over rows) start (union done pending)
   pub apart : is_disjoint done pending ≡ true
   pub followed : is_subset (union_over rows done) (union done pending) ≡ true
+
+-- all that is reached now is reached from the start, and all to which the step led before the pass is reached now, but for
+-- the numbers that are left
+pub record IsPass (step : BitSet → BitSet) (start before now left : BitSet) : Type 0 where
+  pub reached : IsReached step start now
+  pub grown : is_subset before now ≡ true
+  pub seen : is_subset (difference (step before) left) now ≡ true
 
 -- the number is in the start, or a reachable number leads to it
 pub data IsReachable (rows : ℕ → BitSet) (start : BitSet) : ℕ → Type 0 where

@@ -11,21 +11,24 @@
 --     union_over_reachable      what a union over what is reachable has
 --     worklist_first, worklist_next, worklist_last, worklist_smaller      a worklist at first;  after one more number is
 --         done;  at its end;  then fewer are left
+--     pass_first, pass_adds, pass_by, pass_last, pass_smaller      a pass at first;  after a number that is added;  after
+--         one that is not;  after a pass that added nothing;  fewer are left after one that added something
+--     contains_leading_to      which numbers lead to some member
 --     pending_next, pending_apart      the numbers pending, after one more is done
 -- The measure of such a loop falls by `fewer` of `Counts`.
-use Rattle.std.proofs.Common.{◌≡◌, ◌↔◌, ◌<◌, ◌≤◌, ◌+◌, ℕ, zero, suc, Bool, true, false, ◌&&◌, ◌||◌, ◌==◌, List, [], ◌∷◌, map, refl, sym, ap, subst, ◌∙◌, arith, true≢false, ◌⊎◌, inl, inr}
+use Rattle.std.proofs.Common.{◌≡◌, ◌↔◌, ◌<◌, ◌≤◌, ℕ, zero, suc, Bool, true, false, ◌&&◌, ◌==◌, not, List, [], ◌∷◌, map, refl, sym, ap, subst, ◌∙◌, arith, true≢false, inl, inr}
 use Rattle.std.proofs.lemmas.Bool.{false_from_ne_true, or_cases}
-use Rattle.std.proofs.lemmas.Bool.Decides.{nat_tests, same_from_decides}
-use Rattle.std.specs.List.{list_all, list_any}
-use Rattle.enumset_repr.specs.BitSet.{BitSet, is_in, contains, ascending, len, empty, insert, only, remove, retain, union, intersection, difference, is_subset, is_disjoint, is_same}
+use Rattle.std.proofs.lemmas.Bool.Decides.{nat_tests}
+use Rattle.std.specs.List.{list_all}
+use Rattle.enumset_repr.specs.BitSet.{BitSet, is_in, contains, ascending, len, empty, insert, only, remove, retain, union, intersection, difference, is_subset, is_disjoint}
 use Rattle.enumset_repr.specs.Laws.Algebra.{is_subset_trans, contains_inserted, difference_none, union_left, union_right}
-use Rattle.enumset_repr.specs.Laws.Counting.{len_zero_iff}
+use Rattle.enumset_repr.specs.Laws.Counting.{len_zero_iff, len_proper}
 use Rattle.enumset_repr.specs.Laws.MemberRules.{decided}
-use Rattle.enumset_repr.specs.Laws.Members.{members, same_set, contains_ascending, contains_insert, contains_union, list_all_any, list_all_each, is_subset_contains, contains_is_subset, is_same_iff}
+use Rattle.enumset_repr.specs.Laws.Members.{members, same_set, contains_ascending, contains_insert, contains_retain, contains_union, list_all_any, list_all_each, is_subset_contains, contains_is_subset, is_disjoint_contains, contains_is_disjoint}
 use Rattle.enumset_sets.specs.Folds.{union_all}
 use Rattle.enumset_sets.specs.Laws.Counts.{fewer_left, fewer_left_than}
 use Rattle.enumset_sets.specs.Laws.ManySets.{union_all_is_subset}
-use Rattle.enumset_sets.specs.FixedPoints.{union_over, IsMonotone, IsClosed, IsReached, IsLeastClosed, IsWorklist, IsReachable, at_start, from_other}
+use Rattle.enumset_sets.specs.FixedPoints.{union_over, leading_to, IsMonotone, IsClosed, IsReached, IsLeastClosed, IsWorklist, IsPass, IsReachable, at_start, from_other}
 
 -- ---- unions over the members of a set
 
@@ -86,6 +89,27 @@ pub monotone_union_over : (rows : ℕ → BitSet) → IsMonotone (union_over row
 monotone_union_over rows = record {
   grows = λ s t part. (union_over_each rows s (union_over rows t)).1 (λ b one. row_in_union_over rows t b (is_subset_contains s t part b one));
 }
+
+still_apart : (row s t : BitSet) → is_subset s t ≡ true → is_disjoint row t ≡ true → is_disjoint row s ≡ true
+still_apart row s t part apart = contains_is_disjoint row s (λ q one.
+    let out = is_disjoint_contains row t apart q one in
+    false_from_ne_true _ (λ inside. true≢false (sym (is_subset_contains s t part q inside) ∙ out)))
+
+pub monotone_leading_to : (all : BitSet) (rows : ℕ → BitSet) → IsMonotone (leading_to all rows)
+unfolding leading_to
+monotone_leading_to all rows = record {
+  grows = λ s t part. contains_is_subset _ _ (λ b one.
+      let shared : is_disjoint (rows b) s ≡ false = grind (arith, members) in
+      let still = shared_more (rows b) s t part shared in
+      grind (arith, members));
+}
+  where
+    shared_more : (row s t : BitSet) → is_subset s t ≡ true → is_disjoint row s ≡ false → is_disjoint row t ≡ false
+    shared_more row s t part shared = false_from_ne_true _ (λ apart. true≢false (sym (still_apart row s t part apart) ∙ shared))
+
+pub contains_leading_to : (all : BitSet) (rows : ℕ → BitSet) (s : BitSet) (b : ℕ) → contains (leading_to all rows s) b ≡ (contains all b && not (is_disjoint (rows b) s))
+unfolding leading_to
+contains_leading_to all rows s b = contains_retain all _ b
 
 pub monotone_itself : IsMonotone (λ s. s)
 monotone_itself = record { grows = λ s t part. part }
@@ -201,6 +225,47 @@ pub worklist_last : (rows : ℕ → BitSet) (start done : BitSet) → IsWorklist
 worklist_last rows start done list =
     let whole : union done empty ≡ done = grind (arith, decided) in
     reached_all _ _ _ (subst (IsReached _ _) whole list.reached) (subst (λ u. is_subset (union_over rows done) u ≡ true) whole list.followed)
+
+-- ---- passes over numbers
+
+pub pass_first : (step : BitSet → BitSet) (start s all : BitSet) → IsReached step start s → is_subset (step s) all ≡ true → IsPass step start s s all
+pass_first step start s all reached within = record { reached = reached; grown = grind (arith, decided); seen = grind (arith, decided) }
+
+module _ (step : BitSet → BitSet) (start before now left rest : BitSet) (b : ℕ) (monotone : IsMonotone step) (pass : IsPass step start before now left) (is_next : left ≡ insert rest b) where
+  -- the step leads to the next number, which is added
+  pub pass_adds : contains (step now) b ≡ true → IsPass step start before (insert now b) rest
+  pass_adds led = record {
+    reached = reached_one step start now monotone pass.reached b led;
+    grown = let grown = pass.grown in grind (arith, decided);
+    seen = let seen = pass.seen in added (step before) seen;
+  }
+    where
+      added : (next : BitSet) → is_subset (difference next left) now ≡ true → is_subset (difference next rest) (insert now b) ≡ true
+      added next seen = grind (arith, decided, nat_tests)
+
+  -- the step does not lead to it
+  pub pass_by : contains (step now) b ≡ false → IsPass step start before now rest
+  pass_by not_led = record {
+    reached = pass.reached;
+    grown = pass.grown;
+    seen = same (step before) (step now) pass.seen (monotone.grows before now pass.grown) not_led;
+  }
+    where
+      same : (next later : BitSet) → is_subset (difference next left) now ≡ true → is_subset next later ≡ true → contains later b ≡ false → is_subset (difference next rest) now ≡ true
+      same next later seen inside not_led = grind (arith, decided, nat_tests)
+
+-- after a pass that added nothing
+pub pass_last : (step : BitSet → BitSet) (start before now left : BitSet) → IsPass step start before now left → left ≡ empty → now ≡ before → IsLeastClosed step start now
+pass_last step start before now left pass none same =
+    let all_seen = closed (step before) pass.seen in
+    reached_all step start now pass.reached (subst (λ u. is_subset (step u) now ≡ true) (sym same) all_seen)
+  where
+    closed : (next : BitSet) → is_subset (difference next left) now ≡ true → is_subset next now ≡ true
+    closed next seen = grind (arith, decided)
+
+-- after a pass that added something, fewer are left
+pub pass_smaller : (all before now : BitSet) → is_subset now all ≡ true → is_subset before now ≡ true → is_subset now before ≡ false → len (difference all now) < len (difference all before)
+pass_smaller all before now valid grown new = len_proper _ _ (grind (arith, decided)) (grind (arith, decided))
 
 -- ---- what is true of each member
 

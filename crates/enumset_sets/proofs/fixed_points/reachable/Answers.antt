@@ -1,9 +1,9 @@
 use Rattle.std.proofs.Common.{◌≡◌, ℕ, true, false, arith, sym, ap, subst, refl, ◌∙◌}
-use Rattle.enumset_repr.specs.BitSet.{BitSet, contains, insert, remove, union, difference, is_disjoint}
+use Rattle.enumset_repr.specs.BitSet.{BitSet, contains, insert, is_disjoint}
 use Rattle.enumset_repr.specs.Laws.Algebra.{contains_inserted}
 use Rattle.enumset_repr.specs.Laws.MemberRules.{decided}
 use Rattle.enumset_sets.specs.Laws.Counts.{fewer_left}
-use Rattle.enumset_sets.specs.FixedPoints.{LeadsBy, IsWorklist}
+use Rattle.enumset_sets.specs.FixedPoints.{IsWorklist}
 use Rattle.enumset_sets.specs.Laws.FixedPoints.{worklist_first, worklist_next, worklist_last, pending_next, pending_apart}
 use Rattle.enumset_sets.proofs.fixed_points.reachable.Goals as goal
 
