@@ -47,8 +47,8 @@ pub record IsWorklist (rows : ℕ → BitSet) (start done pending : BitSet) : Ty
   pub apart : is_disjoint done pending ≡ true
   pub followed : is_subset (union_over rows done) (union done pending) ≡ true
 
--- all that is reached now is reached from the start, and all to which the step led before the pass is reached now, but for
--- the numbers that are left
+-- all that is reached now is reached from the start, and all to which the step led before the pass is reached now, but
+-- for the numbers that are left
 pub record IsPass (step : BitSet → BitSet) (start before now left : BitSet) : Type 0 where
   pub reached : IsReached step start now
   pub grown : is_subset before now ≡ true

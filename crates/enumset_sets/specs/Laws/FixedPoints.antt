@@ -1,18 +1,18 @@
 -- Laws of least fixed points.
---     union_over_is_subset, union_over_each, row_in_union_over, contains_union_over, union_over_insert      a union over the
---         members of a set: when it is inside a set;  that each row is inside it;  what it has;  with one more member
---     monotone_..      monotone steps: a union over the members, the set itself, a constant, one step after another, unions,
---         intersections, differences and parts of what monotone steps lead to
---     reached_first, reached_part, reached_more, reached_one      what a loop has reached at first;  with a part of what
---         the step leads to;  with all of it;  with one number of it
+--     union_over_is_subset, union_over_each, row_in_union_over, contains_union_over, union_over_insert      a union over
+--         the members of a set: when it is inside a set;  that each row is inside it;  what it has;  with one more
+--     monotone_..      monotone steps: a union over the members, the set itself, a constant, one step after another,
+--         unions, intersections, differences and parts of what monotone steps lead to
+--     reached_first, reached_part, reached_more, reached_one      what a loop has reached at first;  with a part of
+--         what the step leads to;  with all of it;  with one number of it
 --     reached_all, reached_last      once the step adds nothing, what is reached is the least closed set
---     least_closed_..      it is unique;  it is a fixed point of the step with the start added;  what is true of each of
---         its members;  it has exactly what is reachable
+--     least_closed_..      it is unique;  it is a fixed point of the step with the start added;  what is true of each
+--         of its members;  it has exactly what is reachable
 --     union_over_reachable      what a union over what is reachable has
---     worklist_first, worklist_next, worklist_last, worklist_smaller      a worklist at first;  after one more number is
---         done;  at its end;  then fewer are left
---     pass_first, pass_adds, pass_by, pass_last, pass_smaller      a pass at first;  after a number that is added;  after
---         one that is not;  after a pass that added nothing;  fewer are left after one that added something
+--     worklist_first, worklist_next, worklist_last, worklist_smaller      a worklist at first;  after one more number
+--         is done;  at its end;  then fewer are left
+--     pass_first, pass_adds, pass_by, pass_last, pass_smaller      a pass at first;  after a number that is added;
+--         after one that is not;  after a pass that added nothing;  fewer are left after one that added something
 --     contains_leading_to      which numbers lead to some member
 --     pending_next, pending_apart      the numbers pending, after one more is done
 -- The measure of such a loop falls by `fewer` of `Counts`.
