@@ -13,11 +13,11 @@
 --         is done;  at its end;  then fewer are left
 --     pass_first, pass_adds, pass_by, pass_last, pass_smaller      a pass at first;  after a number that is added;
 --         after one that is not;  after a pass that added nothing;  fewer are left after one that added something
---     contains_leading_to      which numbers lead to some member
+--     contains_leading_to, leading_to_is_subset      which numbers lead to some member;  that they are of the set
 --     pending_next, pending_apart      the numbers pending, after one more is done
 -- The measure of such a loop falls by `fewer` of `Counts`.
 use Rattle.std.proofs.Common.{◌≡◌, ◌↔◌, ◌<◌, ◌≤◌, ℕ, zero, suc, Bool, true, false, ◌&&◌, ◌==◌, not, List, [], ◌∷◌, map, refl, sym, ap, subst, ◌∙◌, arith, true≢false, inl, inr}
-use Rattle.std.proofs.lemmas.Bool.{false_from_ne_true, or_cases}
+use Rattle.std.proofs.lemmas.Bool.{and_parts, false_from_ne_true, or_cases}
 use Rattle.std.proofs.lemmas.Bool.Decides.{nat_tests}
 use Rattle.std.specs.List.{list_all}
 use Rattle.enumset_repr.specs.BitSet.{BitSet, is_in, contains, ascending, len, empty, insert, only, remove, retain, union, intersection, difference, is_subset, is_disjoint}
@@ -110,6 +110,9 @@ monotone_leading_to all rows = record {
 pub contains_leading_to : (all : BitSet) (rows : ℕ → BitSet) (s : BitSet) (b : ℕ) → contains (leading_to all rows s) b ≡ (contains all b && not (is_disjoint (rows b) s))
 unfolding leading_to
 contains_leading_to all rows s b = contains_retain all _ b
+
+pub leading_to_is_subset : (all : BitSet) (rows : ℕ → BitSet) (s : BitSet) → is_subset (leading_to all rows s) all ≡ true
+leading_to_is_subset all rows s = contains_is_subset _ _ (λ b one. (and_parts _ _ (sym (contains_leading_to all rows s b) ∙ one)).0)
 
 pub monotone_itself : IsMonotone (λ s. s)
 monotone_itself = record { grows = λ s t part. part }
