@@ -1,3 +1,4 @@
+pub mod FixedPoints
 pub mod Folds
 pub mod Json
 pub mod JsonTexts

@@ -69,5 +69,7 @@ pub mod set;
 pub mod set_json;
 mod set_macros;
 
-pub use enumset_sets::{EnumSet, EnumSetIter, EnumSetType, EnumSetTypeWithRepr, variants};
+pub use enumset_sets::{
+    EnumSet, EnumSetIter, EnumSetType, EnumSetTypeWithRepr, fixed_points, variants,
+};
 pub use names::EnumSetNames;

@@ -3,6 +3,7 @@
 --     Conversions      sets cut at a width, and sets taken through words
 --     Counts      how many valid bits are left
 --     Elements      the laws of an enum without fields, from one test of its bits and constants
+--     FixedPoints      unions over the members of a set, monotone steps, and what loops reach by steps
 --     Folds      folds of a list with one more item at its end
 --     ManySets      unions and intersections of many sets, by which sets there are
 --     Iterators      what iterators that bound their asks yield
@@ -10,6 +11,7 @@
 pub mod Conversions
 pub mod Counts
 pub mod Elements
+pub mod FixedPoints
 pub mod Folds
 pub mod ManySets
 pub mod Iterators

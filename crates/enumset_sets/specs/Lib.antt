@@ -1,4 +1,5 @@
 pub mod Elements
+pub mod FixedPoints
 pub mod Folds
 pub mod SetInvariant
 pub mod Laws

@@ -8,6 +8,7 @@ pub mod element;
 mod element_operators;
 pub mod enum_set;
 pub mod enum_set_iter;
+pub mod fixed_points;
 mod folds;
 mod hash;
 pub mod laws;

@@ -1,13 +1,15 @@
 //! The kinds of tokens with which each part of an expression begins.
 
 ghost use Rattle.std.specs.Prelude.{◌≡◌, ◌↔◌, ◌∷◌, [], ℕ, IsTrue, map};
+ghost use Rattle.enumset.specs.FixedPoints.{union_over};
 ghost use Rattle.enumset.specs.Sets as set;
 ghost use Rattle.example_expressions.specs.Grammar.{bit};
-ghost use Rattle.example_expressions.specs.First.{part_bit, kinds_at, parts_at, CanBegin};
+ghost use Rattle.example_expressions.specs.First.{part_bit, leading_kinds_of, leading_parts_of, CanBegin};
 
 use crate::kind::Kind;
 use crate::part::Part;
 use enumset::EnumSet;
+use enumset::fixed_points::reachable;
 
 /// The kinds of tokens with which an expression can begin, and so each operand in it.
 pub fn operand_kinds() -> EnumSet<Kind>
@@ -18,27 +20,28 @@ pub fn operand_kinds() -> EnumSet<Kind>
 
 /// The kinds of tokens with which a part can begin: those with which one of its rules begins, and those with which a
 /// part can begin that comes first in one of its rules.
-///
-/// Each part is taken once from those that are pending, and the parts that come first in its rules are pending then.
 pub fn first_kinds(whole: Part) -> EnumSet<Kind>
     ensures { (kind : ℕ) → IsTrue (set.contains result kind) ↔ CanBegin whole kind }
 {
+    all_leading_kinds(&reachable(EnumSet::only(whole), |part| leading_parts(part)))
+}
+
+/// The kinds of tokens with which a rule of some parts begins.
+#[tactic(auto, using(enumset::specs::Sets::set_laws), unfolding(enumset::specs::FixedPoints::union_over))]
+fn all_leading_kinds(parts: &EnumSet<Part>) -> EnumSet<Kind>
+    ensures { result ≡ union_over leading_kinds_of parts.now }
+{
     let mut kinds = EnumSet::new();
-    let mut left = EnumSet::all();
-    let mut pending = EnumSet::only(whole);
-    while let Some(part) = pending.pop_first() {
-        left.remove(part);
-        kinds.union_with(&leading_kinds(part));
-        pending.union_with(&leading_parts(part));
-        pending.intersect_with(&left);
+    for part in parts.iter() {
+        kinds.insert_all(leading_kinds(part));
     }
     kinds
 }
 
 /// The kinds of tokens with which a rule of a part begins.
-#[tactic(auto, using(enumset::specs::Sets::written_out))]
+#[tactic(auto, using(enumset::specs::Sets::set_laws, enumset::specs::Sets::written_out))]
 fn leading_kinds(part: Part) -> EnumSet<Kind>
-    ensures { result ≡ set.from_list (map bit (kinds_at part)) }
+    ensures { result ≡ leading_kinds_of (part_bit part) }
 {
     match part {
         Part::Sum | Part::Product => EnumSet::new(),
@@ -47,9 +50,9 @@ fn leading_kinds(part: Part) -> EnumSet<Kind>
 }
 
 /// The parts with which a rule of a part begins.
-#[tactic(auto, using(enumset::specs::Sets::written_out))]
+#[tactic(auto, using(enumset::specs::Sets::set_laws, enumset::specs::Sets::written_out))]
 fn leading_parts(part: Part) -> EnumSet<Part>
-    ensures { result ≡ set.from_list (map part_bit (parts_at part)) }
+    ensures { result ≡ leading_parts_of (part_bit part) }
 {
     match part {
         Part::Sum => EnumSet::from([Part::Sum, Part::Product]),

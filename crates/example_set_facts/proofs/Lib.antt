@@ -1,5 +1,2 @@
-pub mod AllNeeds
-pub mod Passes
 pub mod SortedSets
 pub mod StageTexts
-pub mod Worklists

@@ -1,12 +1,13 @@
 //! What features need, and what is needed in turn, until nothing is added.
 
-ghost use Rattle.std.specs.Prelude.{◌≡◌, true};
+ghost use Rattle.std.specs.Prelude.{◌≡◌};
+ghost use Rattle.enumset.specs.FixedPoints.{IsLeastClosed, leading_to, union_over};
 ghost use Rattle.enumset.specs.Sets as set;
-ghost use Rattle.enumset.specs.Sets.{BitSet};
 ghost use Rattle.example_set_facts.specs.Bits.{feature};
-ghost use Rattle.example_set_facts.specs.Needs.{needs, all_needs, users, IsClosed};
+ghost use Rattle.example_set_facts.specs.Needs.{needs, all_features, users};
 
 use crate::features::Feature;
+use enumset::fixed_points::reachable;
 use enumset::{EnumSet, enum_set};
 
 /// What a feature needs by itself.
@@ -26,9 +27,9 @@ pub fn needs_of(of: Feature) -> EnumSet<Feature>
 }
 
 /// What features need, each by itself.
-#[tactic(auto, using(enumset::specs::Sets::set_laws), unfolding(crate::specs::Needs::all_needs))]
+#[tactic(auto, using(enumset::specs::Sets::set_laws), unfolding(enumset::specs::FixedPoints::union_over))]
 pub fn needed(features: &EnumSet<Feature>) -> EnumSet<Feature>
-    ensures { result ≡ all_needs features.now }
+    ensures { result ≡ union_over needs features.now }
 {
     let mut all = EnumSet::new();
     for feature in features.iter() {
@@ -38,23 +39,24 @@ pub fn needed(features: &EnumSet<Feature>) -> EnumSet<Feature>
 }
 
 /// Features with all that they need, and all that this needs in turn: the least set that has them and lacks nothing.
-#[tactic(auto, using(enumset::specs::Sets::decided, enumset::specs::Sets::loops))]
 pub fn with_needs(from: EnumSet<Feature>) -> EnumSet<Feature>
-    ensures from { set.is_subset from result ≡ true }
-    ensures closed { set.is_subset (all_needs result) result ≡ true }
-    ensures least { (s : BitSet) → set.is_subset from s ≡ true → set.is_subset (all_needs s) s ≡ true
-        → set.is_subset result s ≡ true }
+    ensures { IsLeastClosed (union_over needs) from result }
 {
     let mut reached = from;
     while reached.union_with(&needed(&reached)) {}
     reached
 }
 
+/// The same by a call.
+pub fn reachable_needs(from: EnumSet<Feature>) -> EnumSet<Feature>
+    ensures { IsLeastClosed (union_over needs) from result }
+{
+    reachable(from, |of| needs_of(of))
+}
+
 /// The same by a worklist: each feature is done once.
 pub fn needed_in_turn(from: EnumSet<Feature>) -> EnumSet<Feature>
-    ensures from { set.is_subset from result ≡ true }
-    ensures closed { IsClosed needs result }
-    ensures least { (s : BitSet) → set.is_subset from s ≡ true → IsClosed needs s → set.is_subset result s ≡ true }
+    ensures { IsLeastClosed (union_over needs) from result }
 {
     let mut done = EnumSet::new();
     let mut pending = from;
@@ -78,9 +80,7 @@ pub fn users_of(of: Feature) -> EnumSet<Feature>
 
 /// Features with all that need one of them, and all that need these in turn, found in passes over all features.
 pub fn affected(from: EnumSet<Feature>) -> EnumSet<Feature>
-    ensures from { set.is_subset from result ≡ true }
-    ensures closed { IsClosed users result }
-    ensures least { (s : BitSet) → set.is_subset from s ≡ true → IsClosed users s → set.is_subset result s ≡ true }
+    ensures { IsLeastClosed (leading_to all_features needs) from result }
 {
     let mut reached = from;
     loop {

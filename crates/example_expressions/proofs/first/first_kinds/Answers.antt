@@ -1,20 +1,11 @@
-use Rattle.std.proofs.Common.{ap, subst, ◌∙◌, arith}
-use Rattle.enumset.specs.Sets.{contains}
-use Rattle.enumset_repr.specs.Laws.Algebra.{algebra, contains_inserted}
-use Rattle.enumset_repr.specs.Laws.Members.{contains_from_list}
-use Rattle.enumset_sets.specs.Laws.Elements.{bits_of_variants}
-use Rattle.example_expressions.specs.First.{part_bit}
-use Rattle.example_expressions.proofs.Firsts.{IsWorklist, step, at_end}
+use Rattle.std.proofs.Common.{rules}
+use Rattle.enumset_sets.specs.Laws.FixedPoints.{union_over_reachable}
+use Rattle.example_expressions.specs.First.{leading_kinds_of, leading_parts_of}
+use Rattle.example_expressions.proofs.Firsts.{reachable_begins}
 use Rattle.example_expressions.proofs.first.first_kinds.Goals as goal
 
-pub loop-part-init : goal.loop-part-init
-loop-part-init c = grind (arith, algebra, contains_from_list, bits_of_variants)
-
-pub loop-part-preserved : goal.loop-part-preserved
-loop-part-preserved c =
-    let popped = c.in-Some.ensures in
-    let here = ap (λ s. contains s (part_bit c.in-Some.part)) popped.put_back ∙ contains_inserted _ _ in
-    rw (c.intersect_with.ensures.intersection, c.union_with-in-Some.ensures.union, c.union_with.ensures.union, c.leading_kinds.ensures, c.leading_parts.ensures, c.remove.ensures.removed, popped.removed) (step _ c.in-Some.part _ _ _ c.loop-part.invariant here)
-
 pub returns : goal.returns
-returns c = at_end _ _ _ (subst (IsWorklist _ _ _) c.in_default.ensures.none.0 c.loop-part.invariant)
+returns c kind =
+    let found = union_over_reachable leading_parts_of leading_kinds_of _ _ (c.reachable.ensures leading_parts_of (search rules)) kind in
+    let begins = rw (← c.only.ensures) at (reachable_begins c.args.whole kind) in
+    rw c.all_leading_kinds.ensures (λ one. begins.0 (found.0 one), λ is. found.1 (begins.1 is))

@@ -1,0 +1,13 @@
+//! Least fixed points over sets of an enum: states that can be reached, features that are needed in turn, FIRST and
+//! FOLLOW of a grammar. Each is proved by the laws of `enumset_sets` on fixed points.
+#![tactic(auto, using(enumset::specs::Sets::set_laws))]
+
+pub mod feature;
+pub mod features;
+pub mod grammar;
+pub mod nonterminal;
+pub mod state;
+pub mod states;
+#[cfg(test)]
+mod tests;
+pub mod token;
