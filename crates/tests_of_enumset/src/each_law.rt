@@ -1,9 +1,10 @@
 //! Each law that no other program of this repository calls, at a concrete type.
 
+use enumset::internal::ArrayRepr;
 use enumset::set::MixedEnumSet;
 use enumset::set_json::{JsonWidth, Unknown};
 use enumset::{EnumSet, laws};
-use enumset_worked::Marks;
+use enumset_worked::{Marks, Wide};
 use types_for_tests::{NamedLetters, Numbered};
 
 #[test]
@@ -13,6 +14,11 @@ fn of_sets_and_elements(_rt: HostRuntime) {
     laws::both_ends();
     laws::model();
     laws::order();
+    laws::represented_in_both::<u128, ArrayRepr<2>>();
+    laws::bits_have_values::<NamedLetters>();
+    laws::hash_is_injective::<NamedLetters>();
+    laws::hash_is_injective::<Wide>();
+    laws::mixed_hash_is_injective::<NamedLetters>();
     laws::fold_of_sets();
     laws::fold_of_elements::<NamedLetters>();
     laws::valid_bits_listed::<NamedLetters>();
