@@ -23,7 +23,7 @@ use Rattle.std.specs.List.{list_all}
 use Rattle.enumset_repr.specs.BitSet.{BitSet, is_in, contains, ascending, len, empty, insert, only, remove, retain, union, intersection, difference, is_subset, is_disjoint}
 use Rattle.enumset_repr.specs.Laws.Algebra.{is_subset_trans, contains_inserted, difference_none, union_left, union_right}
 use Rattle.enumset_repr.specs.Laws.Counting.{len_zero_iff, len_proper}
-use Rattle.enumset_repr.specs.Laws.MemberRules.{decided}
+use Rattle.enumset_repr.specs.Rules.Members.{decided}
 use Rattle.enumset_repr.specs.Laws.Members.{members, same_set, contains_ascending, contains_insert, contains_retain, contains_union, list_all_any, list_all_each, is_subset_contains, contains_is_subset, is_disjoint_contains, contains_is_disjoint}
 use Rattle.enumset_sets.specs.Folds.{union_all}
 use Rattle.enumset_sets.specs.Laws.Counts.{fewer_left, fewer_left_than}

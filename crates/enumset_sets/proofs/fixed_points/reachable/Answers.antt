@@ -1,7 +1,7 @@
 use Rattle.std.proofs.Common.{◌≡◌, ℕ, true, false, arith, sym, ap, subst, refl, ◌∙◌}
 use Rattle.enumset_repr.specs.BitSet.{BitSet, contains, insert, is_disjoint}
 use Rattle.enumset_repr.specs.Laws.Algebra.{contains_inserted}
-use Rattle.enumset_repr.specs.Laws.MemberRules.{decided}
+use Rattle.enumset_repr.specs.Rules.Members.{decided}
 use Rattle.enumset_sets.specs.Laws.Counts.{fewer_left}
 use Rattle.enumset_sets.specs.FixedPoints.{IsWorklist}
 use Rattle.enumset_sets.specs.Laws.FixedPoints.{worklist_first, worklist_next, worklist_last, pending_next, pending_apart}
