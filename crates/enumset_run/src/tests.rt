@@ -5,4 +5,5 @@ mod mixed_law;
 mod paced;
 mod program;
 mod refused;
+mod runs_into;
 mod worked_examples;
