@@ -11,7 +11,7 @@ use Rattle.enumset_repr.specs.BitSet.{BitSet}
 use Rattle.enumset_repr.specs.Number.{bits}
 use Rattle.enumset_repr.specs.Words.{bits_of}
 use Rattle.enumset_machine.specs.States.{State, start, set_at, put_set}
-use Rattle.enumset_machine.specs.Plans.{Name, SetAt, IteratorAt, ValidBit, AllowedBit, AnyBit, Width, Value, WordsOf, Plan, row, put_if, width_rules, Outcome, outcome_by, replies_by}
+use Rattle.enumset_machine.specs.Plans.{Name, SetAt, ValidBit, AllowedBit, AnyBit, Value, WordsOf, Plan, row, put_if, width_rules, Outcome, outcome_by, replies_by}
 use Rattle.enumset_machine.specs.Runs.{plan}
 use Rattle.enumset_commands.specs.declared.mixed_command.MixedCommand.{MixedCommand}
 use Rattle.enumset_commands.specs.declared.mixed_command.MixedCommand.TheVariants.{Common, HasBit, InsertBit, RemoveBit, FullComplement, ValidLen, Unknown, AsEnumset, Truncate}

@@ -14,7 +14,7 @@
 --     refusal      why a command is refused, if it is
 --     Outcome      a reply, and the state after it
 --     outcome_unless, outcome_by      the outcome of a plan, which may be refused;  the outcome of a command
---     replies_by, state_after      the replies to a list of commands, and the state that they leave, from the outcome of
+--     replies_by, state_after      the replies to a list of commands, and the state that they leave, by the outcome of
 --         each
 use Rattle.std.specs.Prelude.{ℕ, ◌^◌, Bool, true, not, ◌&&◌, nat_lt, List, [], ◌∷◌, Option, Some, None, if◌then◌else◌}
 use Rattle.std.specs.List.{list_all}

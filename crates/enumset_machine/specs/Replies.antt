@@ -2,7 +2,7 @@
 --     reply_by      the reply of an answer, by the members of its set
 --     reply_of      the reply of an answer whose set is a set of bit numbers
 --     takes_memory      whether a reply takes memory: it has words
-use Rattle.std.specs.Prelude.{ℕ, Bool, true, false}
+use Rattle.std.specs.Prelude.{Bool, true, false}
 use Rattle.enumset_repr.specs.BitSet.{BitSet}
 use Rattle.enumset_repr.specs.Words.{words}
 use Rattle.enumset_machine.specs.declared.answer.Answer.{Answer}

@@ -16,8 +16,8 @@ use Rattle.enumset_commands.specs.declared.command.Command.TheVariants.{New, All
 use Rattle.enumset_commands.specs.declared.reply.Reply.{Reply}
 use Rattle.enumset_commands.specs.declared.reply.Reply.TheVariants.{Done, Truth, Count, Number as NumberIs, Words as WordsAre, Order}
 
--- A row has a command, what it names, its reply, and the state that it leaves. Its sets and its lists are those of `s`, the
--- state before it.
+-- A row has a command, what it names, its reply, and the state that it leaves. Its sets and its lists are those of `s`,
+-- the state before it.
 unfoldable pub plan : Command → Plan
 plan (New r) = row (SetAt r ∷ []) (λ rules s. (Done, put_set s r set.empty))
 plan (All r) = row (SetAt r ∷ []) (λ rules s. (Done, put_set s r rules.valid))

@@ -24,6 +24,7 @@ pub use Rattle.enumset_repr.specs.Laws.Members.{same_set, same_in, same_both, me
 pub use Rattle.enumset_repr.specs.Laws.Order.{ordering}
 pub use Rattle.enumset_repr.specs.Laws.Sets.{in_parts}
 unfoldable pub use Rattle.enumset_repr.specs.Image.{image}
+pub use Rattle.enumset_repr.specs.Number.{is_distinct}
 unfoldable pub use Rattle.enumset_repr.specs.Number.{number, bits}
 unfoldable pub use Rattle.enumset_repr.specs.Order.{compare}
 pub use Rattle.enumset_repr.specs.Sum.{sum_over}
