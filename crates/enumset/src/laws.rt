@@ -1,10 +1,10 @@
-//! Laws of sets. Each is a function that does nothing at run time, except [`bits_have_values`] and the laws of asks. Code
-//! that needs a law calls it, and the proof of that code then knows what the function ensures.
+//! Laws of sets. Each is a function that does nothing at run time, except [`bits_have_values`] and the laws of asks.
+//! Code that needs a law calls it, and the proof of that code then knows what the function ensures.
 //!
 //! This module has the laws of round trips through JSON: the value that was written for a set is read as that set. The
 //! clause `reads` of each writer of texts says that its text is read as this value, so the laws hold for texts too. The
-//! laws of members, numbers, words and hashes come from `enumset_sets`, the equations of sets and the laws of their order
-//! and of two representations from `enumset_repr`, and all others from the modules below: what a reader of another
+//! laws of members, numbers, words and hashes come from `enumset_sets`, the equations of sets and the laws of their
+//! order and of representations from `enumset_repr`, and all others from the modules below: what a reader of another
 //! element type reads, elements, complements, mixed sets, folds, iterators from both ends, and asks. Most laws that are
 //! about sets only are in rulesets. Rust's `enumset` has no laws.
 
@@ -36,7 +36,7 @@ pub use ends::both_ends;
 pub use enumset_array::End;
 use enumset_mixed::MixedEnumSet;
 use enumset_repr::EnumSetTypeRepr;
-pub use enumset_repr::laws::{model, order, represented_in_both};
+pub use enumset_repr::laws::{model, order, represented};
 pub use enumset_sets::laws::{
     all_words_and_back, bits_have_values, cut_number_and_back, cut_words_and_back,
     hash_is_injective, members_are_valid, number_and_back, words_and_back,

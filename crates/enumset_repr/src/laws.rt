@@ -11,9 +11,9 @@ ghost use Rattle.enumset_repr.specs.Order.{compare};
 
 use crate::repr::EnumSetTypeRepr;
 
-/// Tells the proof the equations of sets: which numbers are in each set, that sets with the same members are equal, that a
-/// set is given by the list of its members, which ascends and whose length is the number of members, and what the tests of
-/// sets say.
+/// Tells the proof the equations of sets: which numbers are in each set, that sets with the same members are equal, that
+/// a set is given by the list of its members, which ascends and whose length is the number of members, and what the tests
+/// of sets say.
 ///
 /// The equations determine each operation, so a reader who believes them need not read how sets are defined. It does
 /// nothing at run time.
@@ -27,6 +27,8 @@ pub fn model()
     ensures retain { (s : BitSet) (p : ℕ → Bool) (q : ℕ)
         → contains (set.retain s p) q ≡ (contains s q && p q) }
     ensures from_list { (bs : List ℕ) (q : ℕ) → contains (set.from_list bs) q ≡ is_in q bs }
+    ensures insert_each { (s : BitSet) (bs : List ℕ) (q : ℕ)
+        → contains (set.insert_each s bs) q ≡ (contains s q || is_in q bs) }
     ensures union { (s t : BitSet) (q : ℕ)
         → contains (set.union s t) q ≡ (contains s q || contains t q) }
     ensures intersection { (s t : BitSet) (q : ℕ)
@@ -69,13 +71,11 @@ pub fn order()
     ensures number { (s t : BitSet) → compare s t ≡ nat_cmp (number s) (number t) }
 {}
 
-/// Tells the proof that each set below the widths of two representations is represented in both: `of_members` of the set
-/// is a value of its type, and the set of this value is the set. So a set may move from one representation to the other.
+/// Tells the proof that each set below the width of a representation is represented in it: `of_members` of the set is a
+/// value of the type, and the set of this value is the set. So a set may move from one representation to another.
 ///
 /// It does nothing at run time.
-pub fn represented_in_both<R: EnumSetTypeRepr, S: EnumSetTypeRepr>()
-    ensures first { (s : BitSet) → IsTrue (is_subset s (below R.WIDTH))
+pub fn represented<R: EnumSetTypeRepr>()
+    ensures { (s : BitSet) → IsTrue (is_subset s (below R.WIDTH))
         → R.is_value (R.of_members s) × (R.members (R.of_members s) ≡ s) }
-    ensures second { (s : BitSet) → IsTrue (is_subset s (below S.WIDTH))
-        → S.is_value (S.of_members s) × (S.members (S.of_members s) ≡ s) }
 {}

@@ -42,9 +42,9 @@ pub fn least_closed<T: EnumSetType, S: Step<T>>(start: EnumSet<T>, step: &S) -> 
 /// Returns the elements that can be reached from the start: the start itself, and each element to which a reached one
 /// leads. This is the reflexive transitive closure of `next`, from the start.
 ///
-/// `next` returns the elements to which one element leads: a set, one element or an array of elements. It is called
-/// once for each reached element. If what it returns depends only on the element, the result is the least set that has
-/// the start and that `next` does not leave.
+/// `next` returns the elements to which one element leads: a set, one element or an array of elements. If what it
+/// returns depends only on the element, the result is the least set that has the start and that `next` does not leave.
+/// Otherwise nothing is known of the result. The call makes one call of `next` for each reached element.
 pub fn reachable<T: EnumSetType, O: Into<EnumSet<T>>, F: Fn(T) -> O>(
     start: EnumSet<T>,
     next: F,

@@ -1,7 +1,8 @@
 //! Laws of members, and of round trips: what one call writes for a set, another call reads back as the same set.
 //!
-//! Each law is a function over every element type, which does nothing at run time, except [`bits_have_values`]. Code that
-//! needs a law calls it, and the proof of that code then knows what the function ensures. Rust's `enumset` has no laws.
+//! Each law is a function over every element type, which does nothing at run time, except [`bits_have_values`]. Code
+//! that needs a law calls it, and the proof of that code then knows what the function ensures. Rust's `enumset` has no
+//! laws.
 
 ghost use Rattle.std.specs.Prelude.{◌≡◌, ◌<◌, ◌*◌, ◌^◌, ◌↔◌, ℕ, Bool, IsTrue};
 ghost use Rattle.enumset_repr.specs.BitSet.{BitSet, is_in, contains, below, low, intersection, is_subset, len};
@@ -15,8 +16,8 @@ use crate::raw::learn_valid_bits;
 use enumset_repr::InjectiveHash;
 use std::hash::Hash;
 
-/// Each valid bit is the bit of a value. So of any set, a test of bits passes for some member exactly if it passes for
-/// the bit of some element of the set, and for all members exactly if for the bits of all its elements.
+/// Each valid bit is the bit of a value. So a test passes for some member of a set of valid bits exactly if it passes for
+/// the bit of some element of the set, and for all members exactly if it passes for the bits of all its elements.
 ///
 /// At run time the call makes each value once, from its bit.
 pub fn bits_have_values<T: EnumSetType>()

@@ -4,7 +4,7 @@ use enumset::internal::ArrayRepr;
 use enumset::set::MixedEnumSet;
 use enumset::set_json::{JsonWidth, Unknown};
 use enumset::{EnumSet, laws};
-use enumset_worked::{Marks, Wide};
+use enumset_worked::{Marks, PairWords, Wide};
 use types_for_tests::{NamedLetters, Numbered};
 
 #[test]
@@ -14,11 +14,12 @@ fn of_sets_and_elements(_rt: HostRuntime) {
     laws::both_ends();
     laws::model();
     laws::order();
-    laws::represented_in_both::<u128, ArrayRepr<2>>();
+    laws::represented::<ArrayRepr<2>>();
     laws::bits_have_values::<NamedLetters>();
     laws::hash_is_injective::<NamedLetters>();
     laws::hash_is_injective::<Wide>();
     laws::mixed_hash_is_injective::<NamedLetters>();
+    laws::mixed_hash_is_injective::<PairWords>();
     laws::fold_of_sets();
     laws::fold_of_elements::<NamedLetters>();
     laws::valid_bits_listed::<NamedLetters>();

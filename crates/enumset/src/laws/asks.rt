@@ -91,8 +91,8 @@ pub fn walk_mixed_iter<T: EnumSetTypeWithRepr>(
 /// [`walk_iter`] does, and returns the iterator with how many elements are left. The lists must have the same length.
 ///
 /// However long `ends` is, the iterator has then made at most one ask for each step and one for each word of the
-/// representation, `N` words of an `ArrayRepr<N>`. It has also made at most one for each element that the steps yielded,
-/// and one for each word. Counting the elements left reads words too, and is no ask.
+/// representation. It has also made at most one for each element that the steps yielded, and one for each word. An
+/// `ArrayRepr<N>` has N words, for N below 67,108,864. Counting the elements left reads words too, and is no ask.
 pub fn walk_set<T: EnumSetType>(
     set: &EnumSet<T>,
     ends: &[End],
@@ -114,8 +114,8 @@ pub fn walk_set<T: EnumSetType>(
 /// length.
 ///
 /// However long `ends` is, the iterator has then made at most one ask for each step and one for each word of the
-/// representation, `N` words of an `ArrayRepr<N>`. It has also made at most one for each member that the steps yielded,
-/// and one for each word. Counting the members left reads words too, and is no ask.
+/// representation. It has also made at most one for each member that the steps yielded, and one for each word. An
+/// `ArrayRepr<N>` has N words, for N below 67,108,864. Counting the members left reads words too, and is no ask.
 pub fn walk_mixed_set<T: EnumSetTypeWithRepr>(
     set: &MixedEnumSet<T>,
     ends: &[End],

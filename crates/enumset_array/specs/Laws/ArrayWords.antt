@@ -91,9 +91,11 @@ words_past n s w within from = elim (cases_lt w n) [
   | inr past ↦ slice_index_words_past s n w past
 ]
 
+-- these words are an `ArrayRepr`
 pub is_value : (n : ℕ) (s : BitSet) → IsTrue (is_subset s (below (64 * in_use n))) → IsArrayRepr n (words s n)
 is_value n s within = record { long = length_words s n; fit = words_fit s n; past = empty_past n (words s n) (λ w from. words_past n s w within from) }
 
+-- these words represent the set
 pub represented : (n : ℕ) (s : BitSet) → IsTrue (is_subset s (below (64 * in_use n))) → set_of n (words s n) ≡ s
 represented n s within = set_is n (words s n) s (is_value n s within) (λ w b small. elim (cases_lt w (in_use n)) [
   | inl under ↦ ap (λ x. contains (bits x) b) (slice_index_words s n w (omega (arith, under))) ∙ contains_bits_word s w b ∙ grind (arith, nat_tests)

@@ -1,5 +1,5 @@
--- What numbers feed to a hasher: different numbers of one width feed different bytes, and different lists of words of one
--- length feed different lists of bytes.
+-- What numbers feed to a hasher: different numbers of one width feed different bytes, and different lists of words of
+-- one length feed different lists of bytes.
 --     same_bytes      numbers with the same k lowest bytes are equal, if they have no more
 --     same_words      lists of words that feed the same are equal, if they have the same length
 --     byte_hash, integer_hash      integers that feed the same are equal: of one byte;  of more bytes
@@ -40,10 +40,12 @@ same_bytes_from i (suc k) n m same =
     let later = same_bytes_from (suc i) k n m others in
     one_byte_more i k n ∙ ap (λ r. r * 256 + byte_at i n) later ∙ ap (λ b. (m / 256 ^ suc i % 256 ^ k) * 256 + b) first ∙ sym (one_byte_more i k m)
 
+-- numbers of k bytes are equal if their bytes are
 pub same_bytes : (k n m : ℕ) → n < 256 ^ k → m < 256 ^ k → le_bytes k n ≡ le_bytes k m → n ≡ m
 unfolding le_bytes
 same_bytes k n m fits also same = sym (whole k n fits) ∙ same_bytes_from 0 k n m same ∙ whole k m also
 
+-- lists of words of one length are equal if what they feed is
 pub same_words : (us ws : List ℕ) → length us ≡ length ws → ((i : ℕ) → slice_index us i < 2 ^ 64) → ((i : ℕ) → slice_index ws i < 2 ^ 64) → flat_map fed.u64 us ≡ flat_map fed.u64 ws → us ≡ ws
 same_words [] [] long fit also same = refl
 same_words [] (w ∷ ws) long fit also same = absurd (omega (arith, long))
@@ -55,6 +57,7 @@ same_words (u ∷ us) (w ∷ ws) long fit also same =
     let later = same_words us ws (omega (arith, long)) (λ i. fit (suc i)) (λ i. also (suc i)) others in
     λ i. here i ∷ later i
 
+-- an integer of one byte
 pub byte_hash : (a b : ℕ) → fed.u8 a ≡ fed.u8 b → a ≡ b
 byte_hash a b same = cc
 

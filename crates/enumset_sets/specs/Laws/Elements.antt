@@ -6,7 +6,8 @@
 --     place_is, listed_bit_is      what the bit of a variant is
 --     place_is_valid, listed_bit_is_valid      the bit of a variant is valid
 --     has_value      each number of the list of some values' bits is the bit of a value
---     some_member, all_members      a test passes for some member of a set, or for all, exactly if it does for the bits of
+--     HasValues      each listed bit is some value's
+--     some_value, all_values      a test passes for some member of a set, or for all, exactly if it does for the bits of
 --         its elements
 --     passed      what is known if a test passes
 --     derived_eq      what a derived `==` of such an enum returns
@@ -219,6 +220,7 @@ AreBitsOf-ascending bs all s valid sub =
 
 -- ---- members and elements
 
+-- a number in the list of some values' bits is the bit of one of them
 pub has_value : {T : Type 0} (bit : T → ℕ) (vs : List T) (b : ℕ) → is_in b (map bit vs) ≡ true → (v : T) × (bit v ≡ b)
 has_value bit [] b one = absurd (true≢false (sym one))
 has_value {T} bit (v ∷ vs) b one = elim (b == bit v) as (λ t. (b == bit v) ≡ t → (t || is_in b (map bit vs)) ≡ true → (w : T) × (bit w ≡ b)) [
@@ -233,14 +235,16 @@ HasValues {T} elements = (b : ℕ) → IsTrue (is_in b elements.bit_list) → (v
 value_of : {T : Type 0} (elements : Elements T) → HasValues elements → (s : BitSet) → is_subset s (valid_bits elements) ≡ true → (b : ℕ) → contains s b ≡ true → (v : T) × (elements.bit v ≡ b)
 value_of elements values s valid b one = values b (sym (is_valid_bit elements b) ∙ is_subset_contains s _ valid b one)
 
-pub some_member : {T : Type 0} (elements : Elements T) → HasValues elements → (s : BitSet) (p : ℕ → Bool) → IsTrue (is_subset s (valid_bits elements)) → ((b : ℕ) × IsTrue (contains s b) × IsTrue (p b)) ↔ ((v : T) × IsTrue (contains s (elements.bit v)) × IsTrue (p (elements.bit v)))
-some_member elements values s p valid = (
+-- a test passes for some member exactly if for the bit of some element
+pub some_value : {T : Type 0} (elements : Elements T) → HasValues elements → (s : BitSet) (p : ℕ → Bool) → IsTrue (is_subset s (valid_bits elements)) → ((b : ℕ) × IsTrue (contains s b) × IsTrue (p b)) ↔ ((v : T) × IsTrue (contains s (elements.bit v)) × IsTrue (p (elements.bit v)))
+some_value elements values s p valid = (
   λ some. let at = value_of elements values s valid some.0 some.1 in (at.0, subst (λ b. contains s b ≡ true) (sym at.1) some.1, subst (λ b. p b ≡ true) (sym at.1) some.2),
   λ some. (elements.bit some.0, some.1, some.2),
 )
 
-pub all_members : {T : Type 0} (elements : Elements T) → HasValues elements → (s : BitSet) (p : ℕ → Bool) → IsTrue (is_subset s (valid_bits elements)) → ((b : ℕ) → IsTrue (contains s b) → IsTrue (p b)) ↔ ((v : T) → IsTrue (contains s (elements.bit v)) → IsTrue (p (elements.bit v)))
-all_members elements values s p valid = (
+-- a test passes for all members exactly if for the bits of all elements
+pub all_values : {T : Type 0} (elements : Elements T) → HasValues elements → (s : BitSet) (p : ℕ → Bool) → IsTrue (is_subset s (valid_bits elements)) → ((b : ℕ) → IsTrue (contains s b) → IsTrue (p b)) ↔ ((v : T) → IsTrue (contains s (elements.bit v)) → IsTrue (p (elements.bit v)))
+all_values elements values s p valid = (
   λ all v one. all (elements.bit v) one,
   λ all b one. let at = value_of elements values s valid b one in subst (λ c. p c ≡ true) at.1 (all at.0 (subst (λ c. contains s c ≡ true) (sym at.1) one)),
 )

@@ -2,7 +2,7 @@ use Rattle.std.proofs.Common.{ap, sym, ◌∙◌}
 use Rattle.std.proofs.lemmas.Iterator.Consumers.{YieldsList-end}
 use Rattle.enumset_repr.specs.BitSet.{is_in, contains, ascending}
 use Rattle.enumset_repr.specs.Laws.Members.{contains_ascending}
-use Rattle.enumset_sets.specs.Laws.Elements.{has_value, is_valid_bit, some_member, all_members}
+use Rattle.enumset_sets.specs.Laws.Elements.{has_value, is_valid_bit, some_value, all_values}
 use Rattle.enumset_sets.specs.Laws.Iterators.{of_bits}
 use Rattle.enumset_sets.proofs.laws.bits_have_values.Goals as goal
 
@@ -15,7 +15,7 @@ returns-clause-value g c = λ bit one.
     ap (is_in bit) end.0 ∙ sym (contains_ascending _ bit) ∙ ap (λ s. contains s bit) c.all-value-items.ensures ∙ is_valid_bit elements bit ∙ one)
 
 pub returns-clause-some : goal.returns-clause-some
-returns-clause-some g c = some_member g.T.EnumSetType.elements (returns-clause-value g c)
+returns-clause-some g c = some_value g.T.EnumSetType.elements (returns-clause-value g c)
 
 pub returns-clause-all : goal.returns-clause-all
-returns-clause-all g c = all_members g.T.EnumSetType.elements (returns-clause-value g c)
+returns-clause-all g c = all_values g.T.EnumSetType.elements (returns-clause-value g c)
