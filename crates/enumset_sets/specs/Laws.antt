@@ -12,6 +12,9 @@ pub mod Conversions
 pub mod Counts
 pub mod Elements
 pub mod FixedPoints
+pub mod FixedPointsOfMany
+pub mod Inferences
+pub mod Rounds
 pub mod Folds
 pub mod ManySets
 pub mod Iterators

@@ -1,5 +1,7 @@
 pub mod Elements
 pub mod FixedPoints
+pub mod FixedPointsOfMany
+pub mod Inferences
 pub mod Folds
 pub mod SetInvariant
 pub mod Laws

@@ -9,6 +9,7 @@ mod element_operators;
 pub mod enum_set;
 pub mod enum_set_iter;
 pub mod fixed_points;
+pub mod fixed_points_of_many;
 mod folds;
 mod hash;
 pub mod laws;
