@@ -3,7 +3,7 @@
 ghost use Rattle.std.specs.Prelude.{◌≡◌, true, map, length, IfOk};
 ghost use Rattle.std.specs.List.{list_all};
 ghost use Rattle.enumset_machine.specs.States.{start};
-ghost use Rattle.enumset_machine.specs.Plans.{Plan, is_register, is_number, is_bit, outcome_by, refusal, replies_by, state_after};
+ghost use Rattle.enumset_machine.specs.Plans.{Plan, is_register, fits_width, is_bit, outcome_by, refusal, replies_by, state_after};
 ghost use Rattle.enumset_machine.specs.Replies.{reply_by, reply_of};
 ghost use Rattle.enumset_machine.specs.Runs.{outcome, replies};
 ghost use Rattle.enumset_machine.specs.MixedRuns.{mixed_outcome, mixed_replies};
@@ -90,9 +90,9 @@ pub trait Commands: RunSet {
 
     /// Carries out a command that is not refused.
     fn carry_out(machine: &mut MachineOver<Self>, command: &Self::Command) -> Answer<Self>
-        requires registers { list_all is_register (plan command.now).names ≡ true }
-        requires numbers { list_all is_number (plan command.now).names ≡ true }
-        requires bits { list_all (is_bit Self.rules) (plan command.now).names ≡ true }
+        requires registers { list_all is_register (plan command.now).fields ≡ true }
+        requires widths { list_all fits_width (plan command.now).fields ≡ true }
+        requires bits { list_all (is_bit Self.rules) (plan command.now).fields ≡ true }
         ensures reply { reply_by Self.members result
             ≡ ((plan command.now).effect Self.rules machine.old).0 }
         ensures state { machine.new ≡ ((plan command.now).effect Self.rules machine.old).1 };
@@ -121,12 +121,12 @@ fn answer_each<S: Commands>(
         ≡ state_after (outcome_by S.rules S.plan) machine.old commands.now }
 {
     for (i, command) in commands.iter().enumerate() {
-        answers[i] = answer_to(machine, command);
+        answers[i] = answer_one(machine, command);
     }
 }
 
 /// Carries out one command, if it is not refused, and returns its answer. A refused command changes nothing.
-pub(crate) fn answer_to<S: Commands>(
+pub(crate) fn answer_one<S: Commands>(
     machine: &mut MachineOver<S>,
     command: &S::Command,
 ) -> Answer<S>
