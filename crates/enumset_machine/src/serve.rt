@@ -121,5 +121,5 @@ where
         ++ text_of (outcome_by S.rules S.plan machine.old command).reply ++ codes "\n") }
 {
     let answer = answer_one(machine, &command);
-    write_answer(text, &answer)
+    write_answer(text, answer)
 }
