@@ -39,6 +39,8 @@ pub fn run_into<T: EnumSetType>(
 /// one over finite sets of bit numbers below the width of the representation.
 #[tactic(auto, unfolding(crate::specs::MixedRuns::mixed_outcome))]
 pub fn run_mixed_into<T: EnumSetTypeWithRepr>(
+///
+/// The two lists must have the same length. The call takes no memory and has no error.
     machine: &mut MixedMachine<T>,
     commands: &[MixedCommand],
     answers: &mut [Answer<MixedEnumSet<T>>],
@@ -55,7 +57,9 @@ pub fn run_mixed_into<T: EnumSetTypeWithRepr>(
 }
 
 /// Carries out commands in order on a new machine, and returns one reply for each: the reply over finite sets of bit
-/// numbers. The only error is out of memory, of the list of replies or of one with words.
+/// numbers.
+///
+/// The only error is out of memory, for the list of replies or for a reply of words. No other reply takes memory.
 #[tactic(auto, unfolding(crate::specs::Runs::outcome))]
 pub fn run<T: EnumSetType>(alloc: Global, commands: &[Command]) -> Result<Vec<Reply>, AllocError>
     ensures { IfOk result (λ out. out.items ≡ replies (valid_bits T.elements) commands.now) }
@@ -103,9 +107,12 @@ fn run_over<S: Commands>(alloc: Global, commands: &[S::Command]) -> Result<Vec<R
     ensures { IfOk result (λ out. out.items
         ≡ replies_by (outcome_by S.rules S.plan) start commands.now) }
 {
-    let mut answers = vec![in alloc; Answer::<S>::Done; commands.len()]?;
-    answer_each(&mut MachineOver::<S>::new(), commands, &mut answers);
-    replies_to(alloc, &answers)
+    let mut machine = MachineOver::<S>::new();
+    let mut replies = Vec::with_capacity(alloc, commands.len())?;
+    for command in commands {
+        replies.push(answer_one(&mut machine, command).to_reply(alloc)?)?;
+    }
+    Ok(replies)
 }
 
 /// Carries out commands in order, and writes the answer to each.
@@ -137,15 +144,4 @@ pub(crate) fn answer_one<S: Commands>(
         Some(refusal) => Answer::Refused(refusal),
         None => S::carry_out(machine, command),
     }
-}
-
-/// The replies of answers. The only error is out of memory.
-fn replies_to<S: RunSet>(alloc: Global, answers: &[Answer<S>]) -> Result<Vec<Reply>, AllocError>
-    ensures { IfOk result (λ out. out.items ≡ map (reply_by S.members) answers.now) }
-{
-    let mut replies = Vec::with_capacity(alloc, answers.len())?;
-    for answer in answers {
-        replies.push(answer.to_reply(alloc)?)?;
-    }
-    Ok(replies)
 }
