@@ -19,7 +19,9 @@ use enumset_sets::{EnumSet, EnumSetType, EnumSetTypeWithRepr};
 use std::alloc::{AllocError, Global};
 
 /// Carries out commands in order, and writes the answer to each: its reply is the one over finite sets of bit numbers.
-/// The state of the machine is then the one that the commands leave. There are as many answers as commands.
+/// The state of the machine is then the one that the commands leave.
+///
+/// The two lists must have the same length. The call takes no memory and has no error.
 #[tactic(auto, unfolding(crate::specs::Runs::outcome))]
 pub fn run_into<T: EnumSetType>(
     machine: &mut Machine<T>,
@@ -37,10 +39,10 @@ pub fn run_into<T: EnumSetType>(
 
 /// Carries out commands of mixed sets in order, and writes the answer to each, as [`run_into`] does: its reply is the
 /// one over finite sets of bit numbers below the width of the representation.
-#[tactic(auto, unfolding(crate::specs::MixedRuns::mixed_outcome))]
-pub fn run_mixed_into<T: EnumSetTypeWithRepr>(
 ///
 /// The two lists must have the same length. The call takes no memory and has no error.
+#[tactic(auto, unfolding(crate::specs::MixedRuns::mixed_outcome))]
+pub fn run_mixed_into<T: EnumSetTypeWithRepr>(
     machine: &mut MixedMachine<T>,
     commands: &[MixedCommand],
     answers: &mut [Answer<MixedEnumSet<T>>],
