@@ -2,7 +2,7 @@
 --     plan      the plan of each command: its fields, what it replies and what it leaves
 --     outcome      the reply to a command, refused or not, and the state after it
 --     replies      the replies to a list of commands, from the start
-use Rattle.std.specs.Prelude.{ℕ, ◌*◌, not, List, [], ◌∷◌, length}
+use Rattle.std.specs.Prelude.{◌*◌, not, List, [], ◌∷◌, length}
 use Rattle.enumset_repr.specs.BitSet as set
 use Rattle.enumset_repr.specs.BitSet.{BitSet}
 use Rattle.enumset_repr.specs.Number.{number, bits}
