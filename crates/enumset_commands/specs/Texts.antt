@@ -5,7 +5,8 @@
 --     text      the texts of replies, each followed by one line feed
 --     fault_text      the text of a fault
 --     IsFaultOf      the fault may be reported instead of this answer
---     IsReadAs      whether a reader may return this for a text that writes that: what is written, `None` if nothing is, or an error
+--     IsReadAs      whether a reader may return this for a text that writes that: what is written, `None` if nothing is,
+--         or an error
 use Rattle.std.specs.Prelude.{◌≡◌, ℕ, true, false, List, ◌++◌, codes, Option, Some, None, Result, Ok, Err}
 use Rattle.std.specs.List.{flat_map}
 use Rattle.std.specs.Option.{IsSome}

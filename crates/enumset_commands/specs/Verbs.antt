@@ -1,6 +1,7 @@
 -- The commands by their names.
 --     of_one, of_two, of_three, of_words      the command of one, two or three fields, or of a register and words
---     assignments, queries, changes, word_verbs      tables from names to what fields write: of commands that reply `ok`, that change nothing, that change a register and reply more, and that have words
+--     assignments, queries, changes, word_verbs      tables from names to what fields write: of commands that reply `ok`,
+--         that change nothing, that change a register and reply more, and that have words
 --     own_verbs      the table of the commands that only mixed sets have
 --     written      the command that fields write after a name, by a table of names
 use Rattle.std.specs.Prelude.{ℕ, List, [], ◌∷◌, codes, Option, option_map, option_and_then}

@@ -1,6 +1,6 @@
-//! Commands on sets of bit numbers and the replies to them: how commands are read, and what the texts of replies are.
+//! Commands on sets of bit numbers and the replies to them, and the texts of both.
 //!
-//! Nothing here knows sets: `enumset_machine` says what commands do, does it, and writes the replies.
+//! Nothing here knows sets: `enumset_machine` says what commands do, and does it.
 #![tactic(auto)]
 
 pub mod command;
@@ -9,6 +9,7 @@ pub mod mixed_command;
 pub mod names;
 pub mod reply;
 pub mod text_fault;
+pub mod transcript;
 pub mod word_list;
 
 pub use command::Command;
@@ -16,4 +17,5 @@ pub use grammar::line_command::LineCommand;
 pub use mixed_command::MixedCommand;
 pub use reply::{Refusal, Reply};
 pub use text_fault::TextFault;
+pub use transcript::{write_reply, write_words};
 pub use word_list::WordList;

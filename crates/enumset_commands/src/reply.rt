@@ -2,7 +2,7 @@
 use crate::word_list::WordList;
 use std::cmp::Ordering;
 
-/// The answer to one command.
+/// The reply to one command.
 #[derive(Debug, Drop)]
 pub enum Reply {
     /// The command was carried out.

@@ -1,4 +1,4 @@
--- A run of commands in parts, and one more step of a run that writes its answers into a list.
+-- A run of commands in parts, and one more step of a run that makes a list of replies, or writes its answers into one.
 use Rattle.std.proofs.Common.{◌≡◌, ◌∙◌, ℕ, ◌+◌, ◌<◌, List, [], ◌∷◌, ◌++◌, length, get_or, take, drop, set, map, append_assoc, append-nil, drop-cons, take_all, add-one, suc, refl, ap, sym, arith}
 use Rattle.std.proofs.Math.Seq.{drop-length}
 use Rattle.std.proofs.lemmas.List.{map-append, take_more_set}
@@ -19,7 +19,7 @@ state_after-append outcome s (c ∷ cs) ds = state_after-append outcome (outcome
 pub ruleset composed = (replies_by-append, state_after-append)
 
 -- the replies after one more command
-replies_by-next : {C : Type 0} (outcome : State → C → Outcome) (s t : State) (reply : Reply) (done : List Reply) (commands : List C) (i : ℕ) (command : C) → i < length commands → command ≡ get_or commands i command → outcome s command ≡ record { reply = reply; state = t } → (done ++ reply ∷ []) ++ replies_by outcome t (drop (i + 1) commands) ≡ done ++ replies_by outcome s (drop i commands)
+pub replies_by-next : {C : Type 0} (outcome : State → C → Outcome) (s t : State) (reply : Reply) (done : List Reply) (commands : List C) (i : ℕ) (command : C) → i < length commands → command ≡ get_or commands i command → outcome s command ≡ record { reply = reply; state = t } → (done ++ reply ∷ []) ++ replies_by outcome t (drop (i + 1) commands) ≡ done ++ replies_by outcome s (drop i commands)
 replies_by-next outcome s t reply done commands i command within here h =
     rw (append_assoc done (reply ∷ []) (replies_by outcome t (drop (i + 1) commands)), add-one, drop-cons commands i command within, ← here, h) refl
 

@@ -2,8 +2,8 @@
 --     mixed_plan      the plan of each command; a command of every run has the same plan
 --     mixed_outcome      the reply to a command, refused or not, and the state after it
 --     mixed_replies      the replies to a list of commands, from the start
---     is_within      whether the bits of a command, also those in its number or its words, are below a width, and it is
---         not a full complement
+--     is_field_within      whether the bits of a field, also those in its value or its words, are below a width
+--     is_within      whether the bits of a command are below a width, and it is not a full complement
 use Rattle.std.specs.Prelude.{ℕ, Bool, true, false, not, List, [], ◌∷◌}
 use Rattle.std.specs.List.{list_all}
 use Rattle.enumset_repr.specs.BitSet as set
@@ -11,7 +11,7 @@ use Rattle.enumset_repr.specs.BitSet.{BitSet}
 use Rattle.enumset_repr.specs.Number.{bits}
 use Rattle.enumset_repr.specs.Words.{bits_of}
 use Rattle.enumset_machine.specs.States.{State, start, set_at, put_set}
-use Rattle.enumset_machine.specs.Plans.{Name, SetAt, ValidBit, AllowedBit, AnyBit, Value, WordsOf, Plan, row, put_if, width_rules, Outcome, outcome_by, replies_by}
+use Rattle.enumset_machine.specs.Plans.{Field, SetAt, ValidBit, AllowedBit, AnyBit, Value, WordsOf, Plan, row, put_if, width_rules, Outcome, outcome_by, replies_by}
 use Rattle.enumset_machine.specs.Runs.{plan}
 use Rattle.enumset_commands.specs.declared.mixed_command.MixedCommand.{MixedCommand}
 use Rattle.enumset_commands.specs.declared.mixed_command.MixedCommand.TheVariants.{Common, HasBit, InsertBit, RemoveBit, FullComplement, ValidLen, Unknown, AsEnumset, Truncate}
@@ -40,19 +40,20 @@ mixed_plan (Truncate to a) =
 unfoldable pub mixed_outcome : BitSet → ℕ → State → MixedCommand → Outcome
 mixed_outcome valid width = outcome_by (width_rules valid width) mixed_plan
 
+-- from empty registers
 abbrev pub mixed_replies : BitSet → ℕ → List MixedCommand → List Reply
 mixed_replies valid width cs = replies_by (mixed_outcome valid width) start cs
 
--- whether what a command names has bits below a width alone
-abbrev pub is_name_within : ℕ → Name → Bool
-is_name_within width (ValidBit bit) = set.is_subset (set.only bit) (set.below width)
-is_name_within width (AllowedBit bit) = set.is_subset (set.only bit) (set.below width)
-is_name_within width (AnyBit bit) = set.is_subset (set.only bit) (set.below width)
-is_name_within width (Value _ value) = set.is_subset (bits value) (set.below width)
-is_name_within width (WordsOf ws) = set.is_subset (bits_of ws) (set.below width)
-is_name_within width _ = true
+-- a register and a width have no bits
+abbrev pub is_field_within : ℕ → Field → Bool
+is_field_within width (ValidBit bit) = set.contains (set.below width) bit
+is_field_within width (AllowedBit bit) = set.contains (set.below width) bit
+is_field_within width (AnyBit bit) = set.contains (set.below width) bit
+is_field_within width (Value _ value) = set.is_subset (bits value) (set.below width)
+is_field_within width (WordsOf ws) = set.is_subset (bits_of ws) (set.below width)
+is_field_within width _ = true
 
 -- a full complement has every other bit of the representation
 abbrev pub is_within : ℕ → MixedCommand → Bool
 is_within width (FullComplement to a) = false
-is_within width c = list_all (is_name_within width) (mixed_plan c).names
+is_within width c = list_all (is_field_within width) (mixed_plan c).fields

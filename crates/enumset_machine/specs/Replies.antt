@@ -10,6 +10,7 @@ use Rattle.enumset_machine.specs.declared.answer.Answer.TheVariants as answer
 use Rattle.enumset_commands.specs.declared.reply.Reply.{Reply}
 use Rattle.enumset_commands.specs.declared.reply.Reply.TheVariants.{Done, Truth, Count, Number, Words, Order, Bit, Unknown, Absent, Refused}
 
+-- an answer of words stands for the first words of its set
 abbrev pub reply_by : {S : Type 0} → (S → BitSet) → Answer S → Reply
 reply_by members answer.Done = Done
 reply_by members (answer.Truth holds) = Truth holds
@@ -22,9 +23,11 @@ reply_by members (answer.Unknown bit) = Unknown bit
 reply_by members answer.Absent = Absent
 reply_by members (answer.Refused why) = Refused why
 
+-- the members of a set of bit numbers are itself
 abbrev pub reply_of : Answer BitSet → Reply
 reply_of answer = reply_by (λ s. s) answer
 
+-- only a list of words takes memory
 abbrev pub takes_memory : Reply → Bool
 takes_memory (Words ws) = true
 takes_memory other = false

@@ -1,8 +1,8 @@
 -- What a list of commands replies, over finite sets of bit numbers alone.
---     plan      the plan of each command: what it names, what it replies and what it leaves
+--     plan      the plan of each command: its fields, what it replies and what it leaves
 --     outcome      the reply to a command, refused or not, and the state after it
 --     replies      the replies to a list of commands, from the start
-use Rattle.std.specs.Prelude.{ℕ, ◌*◌, not, List, [], ◌∷◌, length}
+use Rattle.std.specs.Prelude.{◌*◌, not, List, [], ◌∷◌, length}
 use Rattle.enumset_repr.specs.BitSet as set
 use Rattle.enumset_repr.specs.BitSet.{BitSet}
 use Rattle.enumset_repr.specs.Number.{number, bits}
@@ -16,7 +16,7 @@ use Rattle.enumset_commands.specs.declared.command.Command.TheVariants.{New, All
 use Rattle.enumset_commands.specs.declared.reply.Reply.{Reply}
 use Rattle.enumset_commands.specs.declared.reply.Reply.TheVariants.{Done, Truth, Count, Number as NumberIs, Words as WordsAre, Order}
 
--- A row has a command, what it names, its reply, and the state that it leaves. Its sets and its lists are those of `s`,
+-- A row has a command, its fields, its reply, and the state that it leaves. Its sets and its lists are those of `s`,
 -- the state before it.
 unfoldable pub plan : Command → Plan
 plan (New r) = row (SetAt r ∷ []) (λ rules s. (Done, put_set s r set.empty))
@@ -70,5 +70,6 @@ plan (Left i) = row (IteratorAt i ∷ []) (λ rules s. (Count (length (list_at s
 unfoldable pub outcome : BitSet → State → Command → Outcome
 outcome valid = outcome_by (valid_rules valid) plan
 
+-- from empty registers
 abbrev pub replies : BitSet → List Command → List Reply
 replies valid cs = replies_by (outcome valid) start cs

@@ -1,6 +1,7 @@
 //! The answers of a run: replies that take no memory.
 
-ghost use Rattle.std.specs.Prelude.{◌≡◌, false, IsOk, IfOk};
+ghost use Rattle.std.specs.Prelude.{◌≡◌, false, IsOk, IfOk, IfErr};
+ghost use Rattle.enumset_commands.specs.declared.reply.Reply.TheVariants.{Words};
 ghost use Rattle.enumset_repr.specs.Words.{words};
 ghost use Rattle.enumset_machine.specs.Replies.{reply_by, takes_memory};
 
@@ -9,7 +10,7 @@ use enumset_commands::{Refusal, Reply, WordList};
 use std::alloc::{AllocError, Global};
 use std::cmp::Ordering;
 
-/// The answer to one command: its [`Reply`], where words are the set that has them, and how many they are. So an answer
+/// The answer to one command: its [`Reply`], where words are a set that has them, and how many they are. So an answer
 /// takes no memory.
 #[derive(Clone, Copy, Debug)]
 pub enum Answer<S> {
@@ -21,9 +22,9 @@ pub enum Answer<S> {
     Count(u64),
     /// The number of a set: the sum of the powers of two of its members.
     Number(u128),
-    /// The first words of a set, the lowest first.
+    /// The first `count` words of a set, the lowest first: those of the reply.
     Words {
-        /// The set.
+        /// A set whose first words they are.
         set: S,
         /// How many words.
         count: u8,
@@ -46,12 +47,24 @@ impl<S: RunSet> Answer<S> {
         ensures succeeds { takes_memory (reply_by S.members self) ≡ false → IsOk result }
         ensures reply { IfOk result (λ reply. reply ≡ reply_by S.members self) }
     {
+        match self.reply_or_words() {
+            Ok(reply) => Ok(reply),
+            Err((set, count)) => Ok(Reply::Words(word_list(alloc, set, count)?)),
+        }
+    }
+
+    /// The reply of an answer, or the set and the count of an answer of words, whose reply takes memory.
+    pub(crate) fn reply_or_words(self) -> Result<Reply, (S, u8)>
+        ensures reply { IfOk result (λ reply. reply ≡ reply_by S.members self) }
+        ensures words { IfErr result (λ cut.
+            reply_by S.members self ≡ Words (words (S.members cut.0) cut.1)) }
+    {
         Ok(match self {
             Answer::Done => Reply::Done,
             Answer::Truth(holds) => Reply::Truth(holds),
             Answer::Count(count) => Reply::Count(count),
             Answer::Number(number) => Reply::Number(number),
-            Answer::Words { set, count } => Reply::Words(word_list(alloc, set, count)?),
+            Answer::Words { set, count } => return Err((set, count)),
             Answer::Order(order) => Reply::Order(order),
             Answer::Bit(bit) => Reply::Bit(bit),
             Answer::Unknown(bit) => Reply::Unknown(bit),

@@ -2,7 +2,7 @@
 
 ghost use Rattle.std.specs.Prelude.{◌≡◌, ◌^◌, ◌&&◌, nat_lt, Some, None, if◌then◌else◌, true};
 ghost use Rattle.std.specs.List.{list_all};
-ghost use Rattle.enumset_machine.specs.Plans.{is_register, is_number, is_bit, is_width, refusal};
+ghost use Rattle.enumset_machine.specs.Plans.{is_register, fits_width, is_bit, is_width, refusal};
 ghost use Rattle.enumset_machine.specs.Replies.{reply_by};
 ghost use Rattle.enumset_machine.specs.Runs.{plan};
 
@@ -78,9 +78,9 @@ pub(crate) fn carry_out_common<S: RunSet>(
     machine: &mut MachineOver<S>,
     command: &Command,
 ) -> Answer<S>
-    requires registers { list_all is_register (plan command.now).names ≡ true }
-    requires numbers { list_all is_number (plan command.now).names ≡ true }
-    requires bits { list_all (is_bit S.rules) (plan command.now).names ≡ true }
+    requires registers { list_all is_register (plan command.now).fields ≡ true }
+    requires widths { list_all fits_width (plan command.now).fields ≡ true }
+    requires bits { list_all (is_bit S.rules) (plan command.now).fields ≡ true }
     ensures reply { reply_by S.members result
         ≡ ((plan command.now).effect S.rules machine.old).0 }
     ensures state { machine.new ≡ ((plan command.now).effect S.rules machine.old).1 }

@@ -9,7 +9,8 @@ ghost use Rattle.enumset_sets.specs.Elements.{valid_bits};
 ghost use Rattle.enumset_machine.specs.States.{State};
 ghost use Rattle.enumset_machine.specs.Plans.{Outcome, replies_by, state_after};
 ghost use Rattle.enumset_machine.specs.Replies.{reply_of};
-ghost use Rattle.enumset_machine.specs.MixedRuns.{mixed_replies, is_within};
+ghost use Rattle.enumset_machine.specs.Runs.{outcome};
+ghost use Rattle.enumset_machine.specs.MixedRuns.{mixed_outcome, mixed_replies, is_within};
 ghost use Rattle.enumset_commands.specs.declared.mixed_command.MixedCommand.{MixedCommand};
 
 use crate::answer::Answer;
@@ -33,7 +34,9 @@ pub fn run_in_parts<C>()
 {}
 
 /// Runs the same commands over two types with the same valid bits, from the same state: whatever the representations,
-/// the replies are the same, and so are the states after them.
+/// the replies are the same, and so are the states after them. Each side is answered as [`run_into`] answers it.
+///
+/// Each list of answers must have the same length as the commands. The call takes no memory and has no error.
 pub fn same_replies<T: EnumSetType, U: EnumSetType>(
     one: &mut Machine<T>,
     other: &mut Machine<U>,
@@ -47,13 +50,19 @@ pub fn same_replies<T: EnumSetType, U: EnumSetType>(
     requires other_room { length commands.now ≡ length of_other.old }
     ensures replies { map reply_of of_one.new ≡ map reply_of of_other.new }
     ensures state { one.new ≡ other.new }
+    ensures run { map reply_of of_one.new
+        ≡ replies_by (outcome (valid_bits T.elements)) one.old commands.now }
+    ensures left { one.new ≡ state_after (outcome (valid_bits T.elements)) one.old commands.now }
 {
     run_into(one, commands, of_one);
     run_into(other, commands, of_other);
 }
 
 /// Runs the same commands of mixed sets over two types with the same valid bits, in representations of the same width,
-/// from the same state: the replies are the same, and so are the states after them.
+/// from the same state: the replies are the same, and so are the states after them. Each side is answered as
+/// [`run_mixed_into`] answers it.
+///
+/// Each list of answers must have the same length as the commands. The call takes no memory and has no error.
 pub fn same_mixed_replies<T: EnumSetTypeWithRepr, U: EnumSetTypeWithRepr>(
     one: &mut MixedMachine<T>,
     other: &mut MixedMachine<U>,
@@ -68,6 +77,10 @@ pub fn same_mixed_replies<T: EnumSetTypeWithRepr, U: EnumSetTypeWithRepr>(
     requires other_room { length commands.now ≡ length of_other.old }
     ensures replies { map reply_of of_one.new ≡ map reply_of of_other.new }
     ensures state { one.new ≡ other.new }
+    ensures run { map reply_of of_one.new
+        ≡ replies_by (mixed_outcome (valid_bits T.elements) T.Repr.WIDTH) one.old commands.now }
+    ensures left { one.new
+        ≡ state_after (mixed_outcome (valid_bits T.elements) T.Repr.WIDTH) one.old commands.now }
 {
     run_mixed_into(one, commands, of_one);
     run_mixed_into(other, commands, of_other);

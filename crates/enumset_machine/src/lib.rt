@@ -1,4 +1,5 @@
-//! Runs of commands over `EnumSet` and `MixedEnumSet`, for every element type, and over the worked types by their names.
+//! Runs of commands over `EnumSet` and `MixedEnumSet`, for every element type, and over the worked types by their
+//! names.
 #![tactic(auto)]
 
 pub mod answer;

@@ -17,7 +17,7 @@ ghost use Rattle.enumset_sets.specs.Elements.{valid_bits};
 
 use crate::answer::Answer;
 use crate::run_set::RunSet;
-use crate::runs::answer_to;
+use crate::runs::answer_one;
 use enumset_commands::{Command, MixedCommand, Reply};
 use enumset_mixed::MixedEnumSet;
 use enumset_repr::EnumSetTypeRepr;
@@ -62,7 +62,7 @@ impl<T: EnumSetType> MachineOver<EnumSet<T>> {
         ensures { outcome (valid_bits T.elements) self.old command.now
             ≡ record { reply = reply_of result; state = self.new } }
     {
-        answer_to(self, command)
+        answer_one(self, command)
     }
 
     /// Carries out one command, as [`MachineOver::answer`] does, and returns its reply.
@@ -89,7 +89,7 @@ impl<T: EnumSetTypeWithRepr> MachineOver<MixedEnumSet<T>> {
         ensures { mixed_outcome (valid_bits T.elements) T.Repr.WIDTH self.old command.now
             ≡ record { reply = reply_of result; state = self.new } }
     {
-        answer_to(self, command)
+        answer_one(self, command)
     }
 
     /// Carries out one command, as [`MachineOver::answer`] does, and returns its reply.

@@ -3,7 +3,7 @@
 ghost use Rattle.std.specs.Prelude.{◌≡◌, true, map, length, IfOk};
 ghost use Rattle.std.specs.List.{list_all};
 ghost use Rattle.enumset_machine.specs.States.{start};
-ghost use Rattle.enumset_machine.specs.Plans.{Plan, is_register, is_number, is_bit, outcome_by, refusal, replies_by, state_after};
+ghost use Rattle.enumset_machine.specs.Plans.{Plan, is_register, fits_width, is_bit, outcome_by, refusal, replies_by, state_after};
 ghost use Rattle.enumset_machine.specs.Replies.{reply_by, reply_of};
 ghost use Rattle.enumset_machine.specs.Runs.{outcome, replies};
 ghost use Rattle.enumset_machine.specs.MixedRuns.{mixed_outcome, mixed_replies};
@@ -19,7 +19,9 @@ use enumset_sets::{EnumSet, EnumSetType, EnumSetTypeWithRepr};
 use std::alloc::{AllocError, Global};
 
 /// Carries out commands in order, and writes the answer to each: its reply is the one over finite sets of bit numbers.
-/// The state of the machine is then the one that the commands leave. There are as many answers as commands.
+/// The state of the machine is then the one that the commands leave.
+///
+/// The two lists must have the same length. The call takes no memory and has no error.
 #[tactic(auto, unfolding(crate::specs::Runs::outcome))]
 pub fn run_into<T: EnumSetType>(
     machine: &mut Machine<T>,
@@ -37,6 +39,8 @@ pub fn run_into<T: EnumSetType>(
 
 /// Carries out commands of mixed sets in order, and writes the answer to each, as [`run_into`] does: its reply is the
 /// one over finite sets of bit numbers below the width of the representation.
+///
+/// The two lists must have the same length. The call takes no memory and has no error.
 #[tactic(auto, unfolding(crate::specs::MixedRuns::mixed_outcome))]
 pub fn run_mixed_into<T: EnumSetTypeWithRepr>(
     machine: &mut MixedMachine<T>,
@@ -55,7 +59,9 @@ pub fn run_mixed_into<T: EnumSetTypeWithRepr>(
 }
 
 /// Carries out commands in order on a new machine, and returns one reply for each: the reply over finite sets of bit
-/// numbers. The only error is out of memory, of the list of replies or of one with words.
+/// numbers.
+///
+/// The only error is out of memory, for the list of replies or for a reply of words. No other reply takes memory.
 #[tactic(auto, unfolding(crate::specs::Runs::outcome))]
 pub fn run<T: EnumSetType>(alloc: Global, commands: &[Command]) -> Result<Vec<Reply>, AllocError>
     ensures { IfOk result (λ out. out.items ≡ replies (valid_bits T.elements) commands.now) }
@@ -90,9 +96,9 @@ pub trait Commands: RunSet {
 
     /// Carries out a command that is not refused.
     fn carry_out(machine: &mut MachineOver<Self>, command: &Self::Command) -> Answer<Self>
-        requires registers { list_all is_register (plan command.now).names ≡ true }
-        requires numbers { list_all is_number (plan command.now).names ≡ true }
-        requires bits { list_all (is_bit Self.rules) (plan command.now).names ≡ true }
+        requires registers { list_all is_register (plan command.now).fields ≡ true }
+        requires widths { list_all fits_width (plan command.now).fields ≡ true }
+        requires bits { list_all (is_bit Self.rules) (plan command.now).fields ≡ true }
         ensures reply { reply_by Self.members result
             ≡ ((plan command.now).effect Self.rules machine.old).0 }
         ensures state { machine.new ≡ ((plan command.now).effect Self.rules machine.old).1 };
@@ -103,9 +109,12 @@ fn run_over<S: Commands>(alloc: Global, commands: &[S::Command]) -> Result<Vec<R
     ensures { IfOk result (λ out. out.items
         ≡ replies_by (outcome_by S.rules S.plan) start commands.now) }
 {
-    let mut answers = vec![in alloc; Answer::<S>::Done; commands.len()]?;
-    answer_each(&mut MachineOver::<S>::new(), commands, &mut answers);
-    replies_to(alloc, &answers)
+    let mut machine = MachineOver::<S>::new();
+    let mut replies = Vec::with_capacity(alloc, commands.len())?;
+    for command in commands {
+        replies.push(answer_one(&mut machine, command).to_reply(alloc)?)?;
+    }
+    Ok(replies)
 }
 
 /// Carries out commands in order, and writes the answer to each.
@@ -121,12 +130,12 @@ fn answer_each<S: Commands>(
         ≡ state_after (outcome_by S.rules S.plan) machine.old commands.now }
 {
     for (i, command) in commands.iter().enumerate() {
-        answers[i] = answer_to(machine, command);
+        answers[i] = answer_one(machine, command);
     }
 }
 
 /// Carries out one command, if it is not refused, and returns its answer. A refused command changes nothing.
-pub(crate) fn answer_to<S: Commands>(
+pub(crate) fn answer_one<S: Commands>(
     machine: &mut MachineOver<S>,
     command: &S::Command,
 ) -> Answer<S>
@@ -137,15 +146,4 @@ pub(crate) fn answer_to<S: Commands>(
         Some(refusal) => Answer::Refused(refusal),
         None => S::carry_out(machine, command),
     }
-}
-
-/// The replies of answers. The only error is out of memory.
-fn replies_to<S: RunSet>(alloc: Global, answers: &[Answer<S>]) -> Result<Vec<Reply>, AllocError>
-    ensures { IfOk result (λ out. out.items ≡ map (reply_by S.members) answers.now) }
-{
-    let mut replies = Vec::with_capacity(alloc, answers.len())?;
-    for answer in answers {
-        replies.push(answer.to_reply(alloc)?)?;
-    }
-    Ok(replies)
 }

@@ -10,7 +10,7 @@ ghost use Rattle.enumset_commands.specs.Texts.{IsFaultOf, text_of};
 ghost use Rattle.enumset_sets.specs.Elements.{valid_bits};
 
 use crate::machine::MachineOver;
-use crate::runs::{Commands, answer_to};
+use crate::runs::{Commands, answer_one};
 use crate::transcript::write_answer;
 use enumset_commands::grammar::lines::Lines;
 use enumset_commands::grammar::tokens::Tokens;
@@ -120,6 +120,6 @@ where
     ensures text { OnOk result (string_bytes text.new ≡ string_bytes text.old
         ++ text_of (outcome_by S.rules S.plan machine.old command).reply ++ codes "\n") }
 {
-    let answer = answer_to(machine, &command);
-    write_answer(text, &answer)
+    let answer = answer_one(machine, &command);
+    write_answer(text, answer)
 }

@@ -51,9 +51,9 @@ pub fn worked_of_bytes(name: &[u8]) -> Option<Worked>
     })
 }
 
-/// The answer over a worked type. A row of the table is the variant for the sets of a type, and the variant for its mixed
-/// sets. It names the type once, so that no type is mistaken for another with the same replies. `wide` has no mixed sets,
-/// and `nothing` has a function of its own.
+/// The answer over a worked type. A row of the table is the variant for the sets of a type, and the variant for its
+/// mixed sets. It names the type once, so that no type is mistaken for another with the same replies. `wide` has no
+/// mixed sets, and `nothing` has a function of its own.
 macro_rules! over_worked_types {
     ($worked:ident, $alloc:ident, $input:ident: $($of_sets:ident $of_mixed_sets:ident;)+) => {
         match $worked {

@@ -29,8 +29,8 @@ status_of Reading = 1
 status_of Writing = 1
 status_of other = 2
 
--- Reading may fail over any input, memory may be refused if there are replies, and writing may fail if there is something
--- to write. Any other fault is the fault of the input.
+-- Reading may fail over any input, memory may be refused if there are replies, and writing may fail if there is
+-- something to write. Any other fault is the fault of the input.
 abbrev pub IsFaultOver : Result (List ℕ) TextFault → ProgramFault → Type 0
 IsFaultOver answer (Text fault) = IsFaultOf answer fault
 IsFaultOver answer Reading = ⊤

@@ -51,8 +51,8 @@ fn names_fit()
     ensures { list_all (λ row. nat_lt (length row.0) (NAME_LIMIT + 1)) names ≡ true }
 {}
 
-/// The type that the arguments name, from what was found of the first and of the second. `name` begins with the bytes of
-/// the first.
+/// The type that the arguments name, from what was found of the first and of the second. `name` begins with the bytes
+/// of the first.
 fn type_of_arguments(
     first: Result<usize, FillError>,
     name: &[u8],
@@ -100,8 +100,8 @@ pub(crate) fn answer_input<R: Read + Drop, W: Write>(
     Ok(())
 }
 
-/// The bytes of a reader until its end, or until there is one too many, in this empty vector, which has room for them. A
-/// read that was interrupted is tried again.
+/// The bytes of a reader until its end, or until there is one too many, in this empty vector, which has room for them.
+/// A read that was interrupted is tried again.
 fn read_input<R: Read + Drop>(room: Vec<u8>, reader: R) -> Result<Vec<u8>, ProgramFault>
     requires empty { room.items ≡ [] }
     requires room { READ_LIMIT ≤ vec_capacity room }

@@ -10,8 +10,8 @@ use std::alloc::{AllocError, Global};
 
 /// Fields are read one by one, up to the first that is not what the name wants.
 ///
-/// These readers, and the readers of each field, are inlined into the tables of names. A call returns several numbers in
-/// memory, so a table would clear room for the numbers of all its names before it looks one up.
+/// These readers, and the readers of each field, are inlined into the tables of names. A call returns several numbers
+/// in memory, so a table would clear room for the numbers of all its names before it looks one up.
 impl<'a> Tokens<'a> {
     /// A register.
     #[inline(always)]

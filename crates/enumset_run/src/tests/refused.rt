@@ -1,8 +1,8 @@
 //! Runs where memory may be refused, and faults that are reported all the same.
 //!
-//! If its call is refused, a test checks that nothing changed and that the same call with memory returns the whole answer,
-//! and then ends with the refusal. `scripts/gate/refused-memory` refuses each allocation in turn, and knows how each test
-//! must end.
+//! If its call is refused, a test checks that nothing changed and that the same call with memory returns the whole
+//! answer, and then ends with the refusal. `scripts/gate/refused-memory` refuses each allocation in turn, and knows how
+//! each test must end.
 
 use enumset_commands::{Command, MixedCommand, Reply, TextFault};
 use enumset_machine::worked::Worked;

@@ -86,6 +86,15 @@ fn over_mixed_marks(rt: HostRuntime) {
     assert!(rt; matches!(answers[9], Answer::Refused(Refusal::NotABit)));
 }
 
+// One command at a time, without a list of answers.
+#[test]
+fn one_answer(rt: HostRuntime) {
+    let answer = Machine::<Wide>::new().answer(&Only { r: 3, bit: 130 });
+    assert!(rt; matches!(answer, Answer::Done));
+    let answer = MixedMachine::<Marks>::new().answer(&MixedCommand::InsertBit { r: 3, bit: 7 });
+    assert!(rt; matches!(answer, Answer::Truth(true)));
+}
+
 /// Runs commands in two halves, and answers as one run of all of them does.
 fn run_halves<T: EnumSetType>(
     machine: &mut Machine<T>,

@@ -1,5 +1,5 @@
-//! Worked examples of runs: commands over worked types, and the replies to them, worked out by hand; and inputs that have
-//! no replies. `transcripts/` has more, on which the built program is run.
+//! Worked examples of runs: commands over worked types, and the replies to them, worked out by hand; and inputs that
+//! have no replies. `transcripts/` has more, on which the built program is run.
 
 use crate::fault::ProgramFault;
 use enumset_commands::TextFault;

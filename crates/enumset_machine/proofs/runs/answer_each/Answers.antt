@@ -10,6 +10,6 @@ loop-i-preserved g c =
     let within : c.loop-i.i < length c.args.commands.now = omega arith in
     let room : c.loop-i.i < length c.loop-i.answers = omega arith in
     record {
-      answers = answers-next (reply_by g.S.RunSet.members) outcome _ _ _ _ _ _ _ room within c.index-commands-i.is c.answer_to.ensures ∙ c.loop-i.invariant.answers;
-      state = state_after-next outcome _ _ _ _ _ _ within c.index-commands-i.is c.answer_to.ensures ∙ c.loop-i.invariant.state;
+      answers = answers-next (reply_by g.S.RunSet.members) outcome _ _ _ _ _ _ _ room within c.index-commands-i.is c.answer_one.ensures ∙ c.loop-i.invariant.answers;
+      state = state_after-next outcome _ _ _ _ _ _ within c.index-commands-i.is c.answer_one.ensures ∙ c.loop-i.invariant.state;
     }
