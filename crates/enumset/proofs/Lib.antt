@@ -19,6 +19,7 @@ mod PlainLists
 mod JsonNumbers
 mod NumberScans
 mod PlainTexts
+mod PlainMembers
 mod PlainWords
 mod DigitsWritten
 mod WordsWritten

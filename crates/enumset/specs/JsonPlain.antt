@@ -1,18 +1,19 @@
 -- Plain texts, which are read without memory, and strings that need no escape in JSON. The clauses of public calls cite
--- IsPlainNumber, IsPlainWords and IsPlainList. The other names serve these and private functions.
+-- IsPlainNumber, IsPlainWords, IsPlainList and IsPlainMap. The other names serve these and private functions.
 --     IsPlainByte, IsPlain      a byte needs no escape in a string;  each byte of a list needs none
 --     is_space, AreSpaces      whether a byte is allowed between tokens;  each byte of a list is
 --     Begins      a list begins with a byte that has a property
 --     IsSpaced      a text is some tokens, with spaces before, between and after them
 --     quoted      a string between quotes
---     later_tokens, item_tokens      the tokens after an item of an array;  after the opening bracket
---     word_tokens, name_tokens      the tokens of a number;  of a name
+--     later_tokens, item_tokens      the tokens after an item of a list or a map;  after the opening bracket
+--     word_tokens, name_tokens, member_tokens      the tokens of a number;  of a name;  of a name and its boolean
 --     IsPlainNumber      a text is a whole number from 0 to 2 ^ 64 - 1
 --     IsPlainWords      a text is an array of such numbers
 --     IsPlainList      a text is an array of strings that need no escape
+--     IsPlainMap      a text is an object of booleans, whose names are known, need no escape, and come once each
 --     Passed      spaces, a byte, and what follows it
---     IsTextOf, IsTextIfPlain      a text is what a value is written as, and reads as the value;  a result is such a text
---         if it is a text
+--     IsTextOf, IsTextIfPlain      a text is what a value is written as, and reads as the value;  a result is such a
+--         text if it is a text
 --     StartsWithMember      a plain name up to its closing quote and a boolean, with spaces, and what follows them
 --     AreRising      each of some names is before the later ones, in the order of their bytes
 --     IsName      a text is the name of one of some bits
@@ -27,7 +28,8 @@ use Rattle.enumset_repr.specs.BitSet.{BitSet, ascending, len}
 use Rattle.serde_json.specs.Data.{Data, boolean}
 use Rattle.serde_json.specs.Read.{read}
 use Rattle.serde_json.specs.Written.{compact_text}
-use Rattle.enumset.specs.Names.{Names, name_of}
+use Rattle.enumset.specs.JsonNames.{is_unknown}
+use Rattle.enumset.specs.Names.{Names, name_of, are_distinct}
 
 abbrev pub IsPlainByte : ℕ → Type 0
 IsPlainByte x = ((x == 34) ≡ false) × ((x == 92) ≡ false) × (nat_lt x 32 ≡ false)
@@ -69,6 +71,9 @@ word_tokens n = decimal n ∷ []
 abbrev pub name_tokens : List ℕ → List (List ℕ)
 name_tokens name = quoted name ∷ []
 
+abbrev pub member_tokens : List ℕ × Bool → List (List ℕ)
+member_tokens m = quoted m.0 ∷ (58 ∷ []) ∷ compact_text (boolean m.1) ∷ []
+
 abbrev pub IsPlainNumber : List ℕ → Type 0
 IsPlainNumber text = (n : ℕ) × (n < 2 ^ 64) × IsSpaced (word_tokens n) text
 
@@ -77,6 +82,11 @@ IsPlainWords text = (ns : List ℕ) × AllByRecursion (λ n. n < 2 ^ 64) ns × I
 
 abbrev pub IsPlainList : List ℕ → Type 0
 IsPlainList text = (found : List (List ℕ)) × AllByRecursion IsPlain found × IsSpaced ((91 ∷ []) ∷ item_tokens 93 (map name_tokens found)) text
+
+abbrev pub IsPlainMap : Names → List ℕ → Type 0
+IsPlainMap names text =
+    (ms : List (List ℕ × Bool)) × AllByRecursion (λ m. IsPlain m.0 × (is_unknown names m.0 ≡ false)) ms × (are_distinct (map (λ m. m.0) ms) ≡ true)
+    × IsSpaced ((123 ∷ []) ∷ item_tokens 125 (map member_tokens ms)) text
 
 -- ---- the steps of the readers and writers
 

@@ -1,9 +1,12 @@
 //! Texts of maps of names without escapes, written and read without a tree of values.
 
-ghost use Rattle.std.specs.Prelude.{Ok, IfSome};
+ghost use Rattle.std.specs.Prelude.{◌≡◌, ◌++◌, ℕ, Bool, List, Ok, IfSome, IsSome};
+ghost use Rattle.std.specs.Option.{IsSomeAnd};
+ghost use Rattle.serde_json.specs.Data.{boolean};
+ghost use Rattle.serde_json.specs.Written.{compact_text};
 ghost use Rattle.enumset_repr.specs.BitSet.{BitSet};
 ghost use Rattle.enumset.specs.JsonNames.{map_value, set_of_map};
-ghost use Rattle.enumset.specs.JsonPlain.{AreMembers, StartsWithMember, IsTextIfPlain};
+ghost use Rattle.enumset.specs.JsonPlain.{AreMembers, IsPlainMap, StartsWithMember, IsTextIfPlain};
 ghost use Rattle.enumset.specs.JsonReads.{value_read, IsResult};
 ghost use Rattle.enumset.specs.Names.{Names, names_of};
 ghost use Rattle.enumset.specs.declared.set_json.unknown.Unknown.{Unknown};
@@ -46,24 +49,38 @@ fn text_of_names(alloc: Global, names: &[&str]) -> TextIfPlain
     Ok(Some(text))
 }
 
-/// The name and the boolean of a member after its opening quote, and what follows them.
+/// The boolean at the front, and what follows it.
 #[inline(always)]
-fn split_member(bytes: &[u8]) -> Option<(&[u8], bool, &[u8])>
-    ensures { IfSome result (λ parts. StartsWithMember bytes.now parts.0.now parts.1 parts.2.now) }
+fn split_boolean(bytes: &[u8]) -> Option<(bool, &[u8])>
+    ensures whole { IfSome result (λ parts. bytes.now ≡ compact_text (boolean parts.0) ++ parts.1.now) }
+    ensures found { (b : Bool) → (rest : List ℕ) → bytes.now ≡ compact_text (boolean b) ++ rest
+        → IsSomeAnd result (λ parts. (parts.0 ≡ b) × (parts.1.now ≡ rest)) }
 {
-    let (name, rest) = split_string(bytes)?;
-    let (_, value) = split_spaces(after_byte(rest, b':')?);
-    match value {
-        [b't', b'r', b'u', b'e', rest @ ..] => Some((name, true, rest)),
-        [b'f', b'a', b'l', b's', b'e', rest @ ..] => Some((name, false, rest)),
+    match bytes {
+        [b't', b'r', b'u', b'e', rest @ ..] => Some((true, rest)),
+        [b'f', b'a', b'l', b's', b'e', rest @ ..] => Some((false, rest)),
         _ => None,
     }
 }
 
+/// The name and the boolean of a member after its opening quote, and what follows them.
+#[inline(always)]
+fn split_member(bytes: &[u8]) -> Option<(&[u8], bool, &[u8])>
+    ensures starts { IfSome result (λ parts. StartsWithMember bytes.now parts.0.now parts.1 parts.2.now) }
+    ensures found { (name : List ℕ) → (b : Bool) → (rest : List ℕ) → StartsWithMember bytes.now name b rest
+        → IsSomeAnd result (λ parts. (parts.0.now ≡ name) × (parts.1 ≡ b) × (parts.2.now ≡ rest)) }
+{
+    let (name, rest) = split_string(bytes)?;
+    let (_, value) = split_spaces(after_byte(rest, b':')?);
+    let (is_member, rest) = split_boolean(value)?;
+    Some((name, is_member, rest))
+}
+
 /// The set of a map of plain names, if they are all known and none comes twice. No other text is read.
 pub(super) fn read_plain_map<T: EnumSetNames>(text: &str) -> Option<EnumSet<T>>
-    ensures { IfSome result (λ set. (unknown : Unknown)
+    ensures set { IfSome result (λ set. (unknown : Unknown)
         → IsResult (value_read (set_of_map (names_of T.elements T.names) unknown) text.now) (Ok set)) }
+    ensures plain { IsPlainMap (names_of T.elements T.names) text.now → IsSome result }
 {
     let members = after_byte(text.as_bytes(), b'{')?;
     if let Some(end) = after_byte(members, b'}') {

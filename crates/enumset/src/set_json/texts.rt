@@ -10,7 +10,7 @@ ghost use Rattle.serde_json.specs.Written.{compact_text};
 ghost use Rattle.enumset.specs.Json.{width_of, number_value, words_value};
 ghost use Rattle.enumset.specs.Json.{set_of_number, set_of_words};
 ghost use Rattle.enumset.specs.JsonNames.{list_value, map_value, set_of_list, set_of_map};
-ghost use Rattle.enumset.specs.JsonPlain.{IsPlainNumber, IsPlainWords, IsPlainList};
+ghost use Rattle.enumset.specs.JsonPlain.{IsPlainNumber, IsPlainWords, IsPlainList, IsPlainMap};
 ghost use Rattle.enumset.specs.JsonReads.{value_read, IsResult, IsReadOf};
 ghost use Rattle.enumset.specs.Names.{names_of};
 ghost use Rattle.enumset.specs.declared.set_json.fault.JsonFault.TheVariants.{TooWide, OutOfMemory};
@@ -158,7 +158,9 @@ pub fn from_map_text<T: EnumSetNames>(
     text: &str,
     unknown: Unknown,
 ) -> Result<EnumSet<T>, JsonFault>
-    ensures { IsReadOf (set_of_map (names_of T.elements T.names) unknown) text.now result }
+    ensures read { IsReadOf (set_of_map (names_of T.elements T.names) unknown) text.now result }
+    ensures plain { IsPlainMap (names_of T.elements T.names) text.now
+        → IsResult (value_read (set_of_map (names_of T.elements T.names) unknown) text.now) result }
 {
     match read_plain_map(text) {
         Some(set) => Ok(set),
