@@ -21,3 +21,4 @@ pub use Rattle.enumset_sets.specs.Laws.FixedPoints.{union_over_is_subset, union_
 pub use Rattle.enumset_sets.specs.Laws.FixedPointsOfMany.{within_itself, within_trans, within_antisym, many_constant, many_place, many_after, many_union, many_intersection, many_difference, many_retain, many_union_over, many_gathered, many_reached_first, many_reached_one, many_reached_all, many_least_closed_unique, many_least_closed_fixed, many_lacking_less, many_pass_first, many_pass_next, below_first, below_next, below_whole, many_pass_last, passed_first, passed_last, passed_smaller}
 pub use Rattle.enumset_sets.specs.Laws.Inferences.{concluded_by, monotone_concluded}
 pub use Rattle.enumset_sets.specs.Laws.Rounds.{round_last, round_smaller, round_last_len, round_smaller_len}
+pub use Rattle.enumset_sets.specs.Laws.Places.{range_below, valid_in_place, place_below, passed_next, passed_whole}

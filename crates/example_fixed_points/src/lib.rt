@@ -5,6 +5,7 @@
 pub mod feature;
 pub mod features;
 pub mod grammar;
+pub mod grammar_in_passes;
 pub mod nonterminal;
 pub mod state;
 pub mod states;
