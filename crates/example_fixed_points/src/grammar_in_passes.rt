@@ -20,7 +20,10 @@ pub fn all_first() -> [EnumSet<Token>; 15]
         changed = false;
         for of in EnumSet::<Nonterminal>::all() {
             let more = first_at_once(&sets, of);
-            changed |= sets[EnumSet::bit_index(of) as usize].union_with(&more);
+            let place = EnumSet::bit_index(of) as usize;
+            let mut set = sets[place];
+            changed |= set.union_with(&more);
+            sets[place] = set;
         }
     }
     sets
