@@ -21,9 +21,7 @@ pub fn all_first() -> [EnumSet<Token>; 15]
         for of in EnumSet::<Nonterminal>::all() {
             let more = first_at_once(&sets, of);
             let place = EnumSet::bit_index(of) as usize;
-            let mut set = sets[place];
-            changed |= set.union_with(&more);
-            sets[place] = set;
+            changed |= sets[place].union_with(&more);
         }
     }
     sets
