@@ -1,14 +1,16 @@
-//! FIRST of all nonterminals at once, with a set for each nonterminal in the place of its bit.
+//! FIRST and FOLLOW of all nonterminals at once, with a set for each nonterminal in the place of its bit.
 
 ghost use Rattle.std.specs.Prelude.{◌≡◌, replicate};
 ghost use Rattle.enumset.specs.Sets as set;
-ghost use Rattle.enumset.specs.FixedPoints.{AreLeastClosed, gathered, set_at, union_over};
+ghost use Rattle.enumset.specs.FixedPoints.{AreLeastClosed, gathered, many_gathered, set_at, union_over};
 ghost use Rattle.example_fixed_points.specs.Grammar.{nonterminal, leading_table, leading_tokens_table};
+ghost use Rattle.example_fixed_points.specs.Tables.{row};
 
 use crate::grammar::{leading, leading_tokens};
 use crate::nonterminal::Nonterminal;
 use crate::token::Token;
-use enumset::EnumSet;
+use enumset::fixed_points_of_many::{StepForMany, least_closed_sets};
+use enumset::{EnumSet, EnumSetType};
 
 /// FIRST of each nonterminal, in passes over all nonterminals until nothing changes.
 pub fn all_first() -> [EnumSet<Token>; 15]
@@ -56,4 +58,42 @@ pub fn set_of(sets: &[EnumSet<Token>], of: Nonterminal) -> EnumSet<Token>
         Some(set) => *set,
         None => EnumSet::empty(),
     }
+}
+
+/// Tokens that flow from nonterminals to nonterminals: row b of `tokens` has those that arise at the nonterminal of bit
+/// b, and row b of `sources` has the nonterminals from which it takes all tokens. A row past the end is empty.
+#[derive(Clone, Copy, Debug)]
+pub struct Flow<'a> {
+    pub tokens: &'a [EnumSet<Token>],
+    pub sources: &'a [EnumSet<Nonterminal>],
+}
+
+impl StepForMany<Token> for Flow<'_> {
+    ghost step = { λ flow. gathered (row flow.tokens.now) (row flow.sources.now) };
+
+    /// Returns the tokens that arise at a nonterminal or stand in the set of one from which it takes.
+    #[tactic(auto, using(enumset::specs::Sets::set_laws), unfolding(enumset::specs::FixedPoints::gathered))]
+    fn step(&self, sets: &[EnumSet<Token>], place: usize) -> EnumSet<Token> {
+        row_of(self.tokens, place) | sets_of(sets, &row_of(self.sources, place))
+    }
+
+    ghost monotone = { λ flow. many_gathered (row flow.tokens.now) (row flow.sources.now) };
+}
+
+/// A row of a table, or the empty set if the table has none.
+fn row_of<T: EnumSetType>(table: &[EnumSet<T>], place: usize) -> EnumSet<T>
+    ensures { result ≡ row table.now place }
+{
+    match table.get(place) {
+        Some(set) => *set,
+        None => EnumSet::empty(),
+    }
+}
+
+/// Adds to the set of each nonterminal the tokens that flow there. So it makes FIRST of the rows of
+/// [`leading_tokens`] and [`leading`], and FOLLOW of those of `following_tokens` and `enclosing`.
+pub fn add_flow(flow: &Flow<'_>, sets: &mut [EnumSet<Token>])
+    ensures { AreLeastClosed (gathered (row flow.now.tokens.now) (row flow.now.sources.now)) sets.old sets.new }
+{
+    least_closed_sets(sets, flow);
 }

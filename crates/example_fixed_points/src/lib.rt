@@ -7,6 +7,7 @@ pub mod features;
 pub mod grammar;
 pub mod grammar_in_passes;
 pub mod nonterminal;
+pub mod nullable;
 pub mod state;
 pub mod states;
 #[cfg(test)]

@@ -9,7 +9,7 @@ use Rattle.example_fixed_points.proofs.grammar_in_passes.all_first.Given as goal
 abbrev pub invariant-loop-of : goal.invariant-loop-of
 invariant-loop-of l =
     IsPassOverMany (valid_bits (in_place text.the_type)) (gathered leading_tokens_table leading_table) (replicate 15 empty) l.initial.sets l.sets
-        (difference (valid_bits (in_place grammar.the_type)) (from_list l.of-iterator.items)) l.changed
+    (difference (valid_bits (in_place grammar.the_type)) (from_list l.of-iterator.items)) l.changed
 
 abbrev pub invariant-loop-changed : goal.invariant-loop-changed
 invariant-loop-changed l = ArePassed (gathered leading_tokens_table leading_table) (replicate 15 empty) l.sets l.changed
