@@ -9,12 +9,13 @@ ghost use Rattle.example_fixed_points.specs.Tables.{row};
 use crate::grammar::{leading, leading_tokens};
 use crate::nonterminal::Nonterminal;
 use crate::token::Token;
+use enumset::EnumSet;
 use enumset::fixed_points_of_many::{StepForMany, least_closed_sets};
-use enumset::{EnumSet, EnumSetType};
 
 /// FIRST of each nonterminal, in passes over all nonterminals until nothing changes.
 pub fn all_first() -> [EnumSet<Token>; 15]
-    ensures { AreLeastClosed (gathered leading_tokens_table leading_table) (replicate 15 set.empty) result }
+    ensures { AreLeastClosed (gathered leading_tokens_table leading_table)
+        (replicate 15 set.empty) result }
 {
     let mut sets = [EnumSet::new(); 15];
     let mut changed = true;
@@ -54,10 +55,7 @@ pub fn sets_of(sets: &[EnumSet<Token>], of: &EnumSet<Nonterminal>) -> EnumSet<To
 pub fn set_of(sets: &[EnumSet<Token>], of: Nonterminal) -> EnumSet<Token>
     ensures { result ≡ set_at sets.now (nonterminal of) }
 {
-    match sets.get(EnumSet::bit_index(of) as usize) {
-        Some(set) => *set,
-        None => EnumSet::empty(),
-    }
+    tokens_at(sets, EnumSet::bit_index(of) as usize)
 }
 
 /// Tokens that flow from nonterminals to nonterminals: row b of `tokens` has those that arise at the nonterminal of bit
@@ -74,14 +72,24 @@ impl StepForMany<Token> for Flow<'_> {
     /// Returns the tokens that arise at a nonterminal or stand in the set of one from which it takes.
     #[tactic(auto, using(enumset::specs::Sets::set_laws), unfolding(enumset::specs::FixedPoints::gathered))]
     fn step(&self, sets: &[EnumSet<Token>], place: usize) -> EnumSet<Token> {
-        row_of(self.tokens, place) | sets_of(sets, &row_of(self.sources, place))
+        tokens_at(self.tokens, place) | sets_of(sets, &nonterminals_at(self.sources, place))
     }
 
     ghost monotone = { λ flow. many_gathered (row flow.tokens.now) (row flow.sources.now) };
 }
 
-/// A row of a table, or the empty set if the table has none.
-fn row_of<T: EnumSetType>(table: &[EnumSet<T>], place: usize) -> EnumSet<T>
+/// A row of tokens, or the empty set if the table has none.
+fn tokens_at(table: &[EnumSet<Token>], place: usize) -> EnumSet<Token>
+    ensures { result ≡ row table.now place }
+{
+    match table.get(place) {
+        Some(set) => *set,
+        None => EnumSet::empty(),
+    }
+}
+
+/// A row of nonterminals, or the empty set if the table has none.
+fn nonterminals_at(table: &[EnumSet<Nonterminal>], place: usize) -> EnumSet<Nonterminal>
     ensures { result ≡ row table.now place }
 {
     match table.get(place) {
@@ -93,7 +101,8 @@ fn row_of<T: EnumSetType>(table: &[EnumSet<T>], place: usize) -> EnumSet<T>
 /// Adds to the set of each nonterminal the tokens that flow there. So it makes FIRST of the rows of
 /// [`leading_tokens`] and [`leading`], and FOLLOW of those of `following_tokens` and `enclosing`.
 pub fn add_flow(flow: &Flow<'_>, sets: &mut [EnumSet<Token>])
-    ensures { AreLeastClosed (gathered (row flow.now.tokens.now) (row flow.now.sources.now)) sets.old sets.new }
+    ensures { AreLeastClosed (gathered (row flow.now.tokens.now) (row flow.now.sources.now))
+        sets.old sets.new }
 {
     least_closed_sets(sets, flow);
 }
