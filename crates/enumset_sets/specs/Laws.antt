@@ -14,6 +14,7 @@ pub mod Elements
 pub mod FixedPoints
 pub mod FixedPointsOfMany
 pub mod Inferences
+pub mod Places
 pub mod Rounds
 pub mod Folds
 pub mod ManySets

@@ -1,3 +1,4 @@
 pub mod Features
 pub mod Grammar
+pub mod Rules
 pub mod Tables

@@ -46,3 +46,17 @@ pub fn to_come_in_rounds(table: &[EnumSet<State>], now: EnumSet<State>) -> EnumS
     while reached.union_with(&next_of_all(table, &reached)) {}
     reached
 }
+
+/// The same as [`to_come`], in rounds until the set is what it was before the round.
+pub fn to_come_by_comparison(table: &[EnumSet<State>], now: EnumSet<State>) -> EnumSet<State>
+    ensures { IsLeastClosed (union_over (row table.now)) now result }
+{
+    let mut reached = now;
+    loop {
+        let before = reached;
+        reached.insert_all(next_of_all(table, &reached));
+        if reached == before {
+            return reached;
+        }
+    }
+}

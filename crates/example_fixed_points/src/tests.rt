@@ -2,10 +2,12 @@
 
 use crate::feature::Feature;
 use crate::features::with_needs;
-use crate::grammar::{first, follow};
+use crate::grammar::{enclosing, first, follow, following_tokens, leading, leading_tokens};
+use crate::grammar_in_passes::{Flow, add_flow, all_first};
 use crate::nonterminal::Nonterminal;
+use crate::nullable::{Rule, nullable};
 use crate::state::State;
-use crate::states::{to_come, to_come_in_rounds};
+use crate::states::{to_come, to_come_by_comparison, to_come_in_rounds};
 use crate::token::Token;
 use enumset::{EnumSet, enum_set};
 
@@ -37,6 +39,11 @@ fn states_to_come(rt: HostRuntime) {
     assert!(rt; to_come_in_rounds(&table, enum_set!(State::Rejected)) == EnumSet::all());
     assert!(rt;
         to_come_in_rounds(&table, enum_set!(State::Published))
+            == enum_set!(State::Published | State::Archived)
+    );
+    assert!(rt; to_come_by_comparison(&table, enum_set!(State::Rejected)) == EnumSet::all());
+    assert!(rt;
+        to_come_by_comparison(&table, enum_set!(State::Published))
             == enum_set!(State::Published | State::Archived)
     );
 }
@@ -77,4 +84,109 @@ fn first_and_follow(rt: HostRuntime) {
             == statement.union(enum_set!(Token::Else | Token::CloseBrace | Token::End))
     );
     assert!(rt; follow(Nonterminal::Program) == enum_set!(Token::End));
+}
+
+#[test]
+fn first_in_passes(rt: HostRuntime) {
+    let mut flow = [EnumSet::new(); 15];
+    let mut tokens = [EnumSet::new(); 15];
+    let mut sources = [EnumSet::new(); 15];
+    for of in EnumSet::<Nonterminal>::all() {
+        tokens[of as usize] = leading_tokens(of);
+        sources[of as usize] = leading(of);
+    }
+    add_flow(
+        &Flow {
+            tokens: &tokens,
+            sources: &sources,
+        },
+        &mut flow,
+    );
+    let sets = all_first();
+    for of in EnumSet::<Nonterminal>::all() {
+        assert!(rt; sets[of as usize] == first(of));
+        assert!(rt; flow[of as usize] == first(of));
+    }
+}
+
+#[test]
+fn follow_in_passes(rt: HostRuntime) {
+    let mut flow = [EnumSet::new(); 15];
+    let mut tokens = [EnumSet::new(); 15];
+    let mut sources = [EnumSet::new(); 15];
+    for of in EnumSet::<Nonterminal>::all() {
+        tokens[of as usize] = following_tokens(of);
+        sources[of as usize] = enclosing(of);
+    }
+    add_flow(
+        &Flow {
+            tokens: &tokens,
+            sources: &sources,
+        },
+        &mut flow,
+    );
+    for of in EnumSet::<Nonterminal>::all() {
+        assert!(rt; flow[of as usize] == follow(of));
+    }
+    // What is in the sets stays, and flows on.
+    let mut marked = [EnumSet::new(); 15];
+    marked[Nonterminal::Program as usize] = enum_set!(Token::Assign);
+    add_flow(
+        &Flow {
+            tokens: &tokens,
+            sources: &sources,
+        },
+        &mut marked,
+    );
+    assert!(rt;
+        marked[Nonterminal::Block as usize]
+            == follow(Nonterminal::Block).union(enum_set!(Token::Assign))
+    );
+    assert!(rt; marked[Nonterminal::Sum as usize] == follow(Nonterminal::Sum));
+}
+
+#[test]
+fn nullable_nonterminals(rt: HostRuntime) {
+    let rules = [
+        rule(Nonterminal::Program, enum_set!(Nonterminal::Statements)),
+        rule(Nonterminal::Statements, EnumSet::empty()),
+        rule(
+            Nonterminal::Statements,
+            enum_set!(Nonterminal::Statement | Nonterminal::Statements),
+        ),
+        rule(Nonterminal::Statement, enum_set!(Nonterminal::Binding)),
+        rule(Nonterminal::Otherwise, EnumSet::empty()),
+        rule(
+            Nonterminal::Expression,
+            enum_set!(Nonterminal::Sum | Nonterminal::Comparison),
+        ),
+        rule(Nonterminal::Comparison, EnumSet::empty()),
+        rule(
+            Nonterminal::Sum,
+            enum_set!(Nonterminal::Product | Nonterminal::MoreProducts),
+        ),
+        rule(Nonterminal::MoreProducts, EnumSet::empty()),
+        rule(Nonterminal::Product, enum_set!(Nonterminal::Operand)),
+    ];
+    assert!(rt;
+        nullable(&rules)
+            == enum_set!(
+                Nonterminal::Program
+                    | Nonterminal::Statements
+                    | Nonterminal::Otherwise
+                    | Nonterminal::Comparison
+                    | Nonterminal::MoreProducts
+            )
+    );
+    assert!(rt;
+        nullable(&rules[2..])
+            == enum_set!(
+                Nonterminal::Otherwise | Nonterminal::Comparison | Nonterminal::MoreProducts
+            )
+    );
+    assert!(rt; nullable(&[]) == EnumSet::empty());
+}
+
+fn rule(of: Nonterminal, parts: EnumSet<Nonterminal>) -> Rule {
+    Rule { of, parts }
 }

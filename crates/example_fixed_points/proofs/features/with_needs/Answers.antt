@@ -1,5 +1,5 @@
 use Rattle.std.proofs.Common.{rules}
-use Rattle.enumset_sets.specs.Laws.FixedPoints.{least_closed_reachable}
+use Rattle.enumset.specs.FixedPoints.{least_closed_reachable}
 use Rattle.example_fixed_points.specs.Features.{needs_table}
 use Rattle.example_fixed_points.proofs.features.with_needs.Goals as goal
 

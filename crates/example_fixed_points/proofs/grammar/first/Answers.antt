@@ -1,5 +1,5 @@
 use Rattle.std.proofs.Common.{rules}
-use Rattle.enumset_sets.specs.Laws.FixedPoints.{union_over_reachable}
+use Rattle.enumset.specs.FixedPoints.{union_over_reachable}
 use Rattle.example_fixed_points.specs.Grammar.{leading_table, leading_tokens_table}
 use Rattle.example_fixed_points.proofs.grammar.first.Goals as goal
 

@@ -1,5 +1,5 @@
 use Rattle.std.proofs.Common.{rules}
-use Rattle.enumset_sets.specs.Laws.FixedPoints.{union_over_reachable}
+use Rattle.enumset.specs.FixedPoints.{union_over_reachable}
 use Rattle.example_fixed_points.specs.Grammar.{enclosing_table, following_tokens_table}
 use Rattle.example_fixed_points.proofs.grammar.follow.Goals as goal
 

@@ -1,7 +1,6 @@
 use Rattle.std.proofs.Common.{◌≡◌, true, false, arith, rules}
 use Rattle.enumset.specs.Sets.{is_subset, decided, in_place, valid_bits}
-use Rattle.enumset_sets.specs.Laws.Counts.{fewer_left_than}
-use Rattle.enumset_sets.specs.Laws.FixedPoints.{monotone_union_over, reached_first, reached_more, reached_last}
+use Rattle.enumset.specs.FixedPoints.{fewer_left_than, monotone_union_over, reached_first, reached_more, reached_last}
 use Rattle.example_fixed_points.specs.contracts.state.State.{the_type}
 use Rattle.example_fixed_points.proofs.states.to_come_in_rounds.Goals as goal
 
