@@ -1,3 +1,4 @@
 pub mod Changed
+pub mod FixedPointLaws
 pub mod Laws
 pub mod Unknown

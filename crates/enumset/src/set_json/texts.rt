@@ -96,7 +96,7 @@ pub fn to_map_text<T: EnumSetNames>(alloc: Global, set: &EnumSet<T>) -> Result<S
 
 /// Reads a set from a string of JSON that is a number, as [`from_number`] reads it from the number. It has the faults
 /// of [`from_number`] and two more: [`JsonFault::NotJson`] if the string is not JSON, and [`JsonFault::OutOfMemory`],
-/// since strings other than whole numbers are parsed in memory.
+/// since strings other than whole numbers below 2^64 are parsed in memory.
 pub fn from_number_text<T: EnumSetType>(
     alloc: Global,
     text: &str,
@@ -115,7 +115,7 @@ pub fn from_number_text<T: EnumSetType>(
 
 /// Reads a set from a string of JSON that is an array of words of 64 bits, as [`from_words`] reads it from the array.
 /// It has the faults of [`from_words`] and two more: [`JsonFault::NotJson`] if the string is not JSON, and
-/// [`JsonFault::OutOfMemory`], since strings other than arrays of whole numbers are parsed in memory.
+/// [`JsonFault::OutOfMemory`], since strings other than arrays of whole numbers below 2^64 are parsed in memory.
 pub fn from_words_text<T: EnumSetType>(
     alloc: Global,
     text: &str,
