@@ -61,12 +61,12 @@ pub fn set_of(sets: &[EnumSet<Token>], of: Nonterminal) -> EnumSet<Token>
 /// Tokens that flow from nonterminals to nonterminals: row b of `tokens` has those that arise at the nonterminal of bit
 /// b, and row b of `sources` has the nonterminals from which it takes all tokens. A row past the end is empty.
 #[derive(Clone, Copy, Debug)]
-pub struct Flow<'a> {
-    pub tokens: &'a [EnumSet<Token>],
-    pub sources: &'a [EnumSet<Nonterminal>],
+pub struct Flow<'t, 's> {
+    pub tokens: &'t [EnumSet<Token>],
+    pub sources: &'s [EnumSet<Nonterminal>],
 }
 
-impl StepForMany<Token> for Flow<'_> {
+impl StepForMany<Token> for Flow<'_, '_> {
     ghost step = { λ flow. gathered (row flow.tokens.now) (row flow.sources.now) };
 
     /// Returns the tokens that arise at a nonterminal or stand in the set of one from which it takes.
@@ -100,7 +100,7 @@ fn nonterminals_at(table: &[EnumSet<Nonterminal>], place: usize) -> EnumSet<Nont
 
 /// Adds to the set of each nonterminal the tokens that flow there. So it makes FIRST of the rows of
 /// [`leading_tokens`] and [`leading`], and FOLLOW of those of `following_tokens` and `enclosing`.
-pub fn add_flow(flow: &Flow<'_>, sets: &mut [EnumSet<Token>])
+pub fn add_flow(flow: &Flow<'_, '_>, sets: &mut [EnumSet<Token>])
     ensures { AreLeastClosed (gathered (row flow.now.tokens.now) (row flow.now.sources.now))
         sets.old sets.new }
 {

@@ -2,8 +2,8 @@
 
 use crate::feature::Feature;
 use crate::features::with_needs;
-use crate::grammar::{enclosing, first, follow, following_tokens, leading, leading_tokens};
-use crate::grammar_in_passes::{Flow, add_flow, all_first};
+use crate::grammar::{first, follow};
+use crate::grammar_in_passes::{Flow, add_flow, all_first, set_of};
 use crate::nonterminal::Nonterminal;
 use crate::nullable::{Rule, nullable};
 use crate::state::State;
@@ -88,61 +88,38 @@ fn first_and_follow(rt: HostRuntime) {
 
 #[test]
 fn first_in_passes(rt: HostRuntime) {
-    let mut flow = [EnumSet::new(); 15];
-    let mut tokens = [EnumSet::new(); 15];
-    let mut sources = [EnumSet::new(); 15];
-    for of in EnumSet::<Nonterminal>::all() {
-        tokens[of as usize] = leading_tokens(of);
-        sources[of as usize] = leading(of);
-    }
-    add_flow(
-        &Flow {
-            tokens: &tokens,
-            sources: &sources,
-        },
-        &mut flow,
-    );
     let sets = all_first();
     for of in EnumSet::<Nonterminal>::all() {
-        assert!(rt; sets[of as usize] == first(of));
-        assert!(rt; flow[of as usize] == first(of));
+        assert!(rt; set_of(&sets, of) == first(of));
     }
 }
 
 #[test]
-fn follow_in_passes(rt: HostRuntime) {
-    let mut flow = [EnumSet::new(); 15];
-    let mut tokens = [EnumSet::new(); 15];
-    let mut sources = [EnumSet::new(); 15];
-    for of in EnumSet::<Nonterminal>::all() {
-        tokens[of as usize] = following_tokens(of);
-        sources[of as usize] = enclosing(of);
-    }
-    add_flow(
-        &Flow {
-            tokens: &tokens,
-            sources: &sources,
-        },
-        &mut flow,
-    );
-    for of in EnumSet::<Nonterminal>::all() {
-        assert!(rt; flow[of as usize] == follow(of));
-    }
-    // What is in the sets stays, and flows on.
-    let mut marked = [EnumSet::new(); 15];
-    marked[Nonterminal::Program as usize] = enum_set!(Token::Assign);
-    add_flow(
-        &Flow {
-            tokens: &tokens,
-            sources: &sources,
-        },
-        &mut marked,
+fn tokens_flow(rt: HostRuntime) {
+    let tokens = [
+        enum_set!(Token::End),
+        enum_set!(Token::CloseBrace),
+        enum_set!(Token::Let),
+    ];
+    let sources = [
+        EnumSet::empty(),
+        enum_set!(Nonterminal::Program | Nonterminal::Statements),
+        enum_set!(Nonterminal::Statements),
+    ];
+    let flow = Flow {
+        tokens: &tokens,
+        sources: &sources,
+    };
+    let mut sets = [EnumSet::empty(), EnumSet::empty(), EnumSet::empty()];
+    add_flow(&flow, &mut sets);
+    assert!(rt; set_of(&sets, Nonterminal::Program) == enum_set!(Token::End));
+    assert!(rt;
+        set_of(&sets, Nonterminal::Statements) == enum_set!(Token::CloseBrace | Token::End)
     );
     assert!(rt;
-        marked[Nonterminal::Block as usize]
-            == follow(Nonterminal::Block).union(enum_set!(Token::Assign))
+        set_of(&sets, Nonterminal::Statement)
+            == enum_set!(Token::Let | Token::CloseBrace | Token::End)
     );
-    assert!(rt; marked[Nonterminal::Sum as usize] == follow(Nonterminal::Sum));
 }
 
 #[test]
@@ -176,12 +153,6 @@ fn nullable_nonterminals(rt: HostRuntime) {
                     | Nonterminal::Otherwise
                     | Nonterminal::Comparison
                     | Nonterminal::MoreProducts
-            )
-    );
-    assert!(rt;
-        nullable(&rules[2..])
-            == enum_set!(
-                Nonterminal::Otherwise | Nonterminal::Comparison | Nonterminal::MoreProducts
             )
     );
     assert!(rt; nullable(&[]) == EnumSet::empty());
