@@ -4,7 +4,7 @@
 --     .._uses      each other law once, by subject
 use Rattle.std.proofs.Common.{◌≡◌, ◌≢◌, ◌≤◌, ◌<◌, ◌↔◌, ℕ, ◌+◌, ◌*◌, ◌^◌, min, max, Bool, true, false, not, ◌&&◌, cond, List, ◌++◌, map, fold, filter, sum_by, count_by, Some, None, sym, ap, ◌∙◌, arith}
 use Rattle.enumset.specs.Sets as set
-use Rattle.enumset.specs.Sets.{BitSet, contains, is_subset, is_disjoint, is_same, union, intersection, difference, symmetric_difference, insert, remove, retain, only, empty, below, len, ascending, least, greatest, number, sum_over, image, union_all, from_list, is_in}
+use Rattle.enumset.specs.Sets.{BitSet, contains, is_subset, is_disjoint, is_same, union, intersection, difference, symmetric_difference, insert, remove, retain, only, empty, below, len, ascending, least, greatest, number, sum_over, image, union_all, from_list, is_in, is_distinct}
 
 -- a set that a subset extends, inside `Some`
 extended : (s t : BitSet) → is_subset s t ≡ true → Some (union s t) ≡ Some t
