@@ -26,10 +26,10 @@ union_over_uses rows s t b q = (
 pub monotone_uses : (f g : BitSet → BitSet) (u : BitSet) (p : ℕ → Bool) → IsMonotone f → IsMonotone g → IsMonotone (λ s. union (difference (f (g s)) u) (intersection (retain (g s) p) (union u s)))
 monotone_uses f g u p one other =
     fixed.monotone_union (λ s. difference (f (g s)) u) (λ s. intersection (retain (g s) p) (union u s))
-        (fixed.monotone_difference (λ s. f (g s)) u (fixed.monotone_after f g one other))
-        (fixed.monotone_intersection (λ s. retain (g s) p) (λ s. union u s)
-            (fixed.monotone_retain g p other)
-            (fixed.monotone_union (λ s. u) (λ s. s) (fixed.monotone_constant u) fixed.monotone_itself))
+    (fixed.monotone_difference (λ s. f (g s)) u (fixed.monotone_after f g one other))
+    (fixed.monotone_intersection (λ s. retain (g s) p) (λ s. union u s)
+    (fixed.monotone_retain g p other)
+    (fixed.monotone_union (λ s. u) (λ s. s) (fixed.monotone_constant u) fixed.monotone_itself))
 
 module _ (step : BitSet → BitSet) (start s : BitSet) (monotone : IsMonotone step) where
   pub reached_uses : (t : BitSet) (b : ℕ) → IsReached step start s → is_subset t (step s) ≡ true → contains (step s) b ≡ true → IsReached step start (union s t) × IsReached step start (insert s b)
@@ -63,12 +63,12 @@ pub many_monotone_uses : (own sources : ℕ → BitSet) (source : ℕ → ℕ) (
     → IsMonotoneForMany (λ sets place. union (f place (set_at sets (source place))) (difference (retain (intersection (own place) (union_over (set_at sets) (sources place))) (p place)) (own place)))
 many_monotone_uses own sources source f p each =
     fixed.many_union (λ sets place. f place (set_at sets (source place))) (λ sets place. difference (retain (intersection (own place) (union_over (set_at sets) (sources place))) (p place)) (own place))
-        (fixed.many_after f (λ sets place. set_at sets (source place)) each (fixed.many_place source))
-        (fixed.many_difference (λ sets place. retain (intersection (own place) (union_over (set_at sets) (sources place))) (p place)) own
-            (fixed.many_retain (λ sets place. intersection (own place) (union_over (set_at sets) (sources place))) p
-                (fixed.many_intersection (λ sets place. own place) (λ sets place. union_over (set_at sets) (sources place))
-                    (fixed.many_constant own)
-                    (fixed.many_union_over sources))))
+    (fixed.many_after f (λ sets place. set_at sets (source place)) each (fixed.many_place source))
+    (fixed.many_difference (λ sets place. retain (intersection (own place) (union_over (set_at sets) (sources place))) (p place)) own
+    (fixed.many_retain (λ sets place. intersection (own place) (union_over (set_at sets) (sources place))) p
+    (fixed.many_intersection (λ sets place. own place) (λ sets place. union_over (set_at sets) (sources place))
+    (fixed.many_constant own)
+    (fixed.many_union_over sources))))
 
 module _ (step : List BitSet → ℕ → BitSet) (start sets : List BitSet) (place : ℕ) (monotone : IsMonotoneForMany step) (here : place < length sets) where
   pub many_reached_uses : AreReached step start sets → AreReached step start start × AreReached step start (set sets place (union (set_at sets place) (step sets place)))
