@@ -3,9 +3,9 @@
 use Rattle.std.proofs.Common.{◌≡◌, ◌<◌, ◌↔◌, ℕ, Bool, true, false, ◌&&◌, ◌==◌, List, length, set}
 use Rattle.std.specs.List.{list_all, list_any, range_with_len}
 use denote.Enum.Declared.{Declared, rowss}
-use Rattle.enumset.specs.Sets.{BitSet, contains, is_subset, is_same, union, intersection, difference, insert, retain, empty, below, len, ascending, from_list, valid_bits, in_place}
+use Rattle.enumset.specs.Sets.{BitSet, contains, is_subset, is_same, union, intersection, difference, insert, retain, empty, below, len, ascending, only, from_list, valid_bits, in_place}
 use Rattle.enumset.specs.FixedPoints as fixed
-use Rattle.enumset.specs.FixedPoints.{union_over, concluded, IsMonotone, IsClosed, IsReached, IsLeastClosed, set_at, AreWithin, IsMonotoneForMany, AreClosed, AreReached, AreLeastClosed, lacking, passes_left, IsPassOverMany, ArePassed}
+use Rattle.enumset.specs.FixedPoints.{union_over, concluded, IsMonotone, IsClosed, IsReached, IsLeastClosed, IsReachable, gathered, set_at, AreWithin, IsMonotoneForMany, AreClosed, AreReached, AreLeastClosed, lacking, passes_left, IsPassOverMany, ArePassed}
 
 -- ---- unions over the members of a set
 
@@ -82,6 +82,10 @@ module _ (step : List BitSet → ℕ → BitSet) (start sets : List BitSet) (pla
 
   pub many_lacking_use : (all t : BitSet) → is_subset t all ≡ true → is_subset t (set_at sets place) ≡ false → lacking all (set sets place (union (set_at sets place) t)) < lacking all sets
   many_lacking_use all t valid new = fixed.many_lacking_less all sets place t here valid new
+
+pub flow_uses : (own sources : ℕ → BitSet) (start sets : List BitSet) (place q : ℕ) → AreLeastClosed (gathered own sources) start sets → ((p b : ℕ) → p < length sets → contains (sources p) b ≡ true → b < length sets)
+    → ((n : ℕ) → set_at start n ≡ empty) → place < length sets → (contains (set_at sets place) q ≡ true) ↔ ((n : ℕ) × IsReachable sources (only place) n × (contains (own n) q ≡ true))
+flow_uses own sources start sets place q least listed none here = fixed.gathered_reachable_from_empty own sources start sets least listed none place q here
 
 pub passed_uses : (all : BitSet) (step : List BitSet → ℕ → BitSet) (start before now : List BitSet) (done : BitSet) (changed : Bool)
     → (ArePassed step start now false → AreLeastClosed step start now) × (IsPassOverMany all step start before now done changed → passes_left all now changed < passes_left all before true)
