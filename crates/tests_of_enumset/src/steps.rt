@@ -35,6 +35,11 @@ fn mixed_steps_answer_and_leave_the_others(rt: HostRuntime) {
     ];
     expect(&rt, "answers", answers, wanted);
     expect(&rt, "left", iter.len(), 1);
+    let mut iter = MixedEnumSet::<Letters>::from_repr(0b1001_0001).iter();
+    let mut answer = [None];
+    walk_mixed_iter(&mut iter, &[Front], &mut answer);
+    expect(&rt, "answer", answer, [Some(MixedValue::Valid(Letters::A))]);
+    expect(&rt, "two left", iter.len(), 2);
 }
 
 #[test]
