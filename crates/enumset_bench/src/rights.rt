@@ -1,4 +1,4 @@
-// Written by enumset_derive from the enum's source: change the source, and write this module again.
+// Written by enumset_derive enumset_bench rights from Right, Role: change the source, and write this again.
 
 //! The element types of the job that decides requests.
 
@@ -47,7 +47,7 @@ impl EnumSetType for Right {
 
     ghost ALL_BITS = { 1048575 };
 
-    const ALL_BITS: u32 = 1048575;
+    const ALL_BITS: u32 = 0xFFFFF;
 
     ghost BIT_WIDTH = { 20 };
 
@@ -219,7 +219,7 @@ impl EnumSetType for Role {
 
     ghost ALL_BITS = { 4095 };
 
-    const ALL_BITS: u16 = 4095;
+    const ALL_BITS: u16 = 0xFFF;
 
     ghost BIT_WIDTH = { 12 };
 

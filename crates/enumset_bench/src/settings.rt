@@ -1,4 +1,4 @@
-// Written by enumset_derive from the enum's source: change the source, and write this module again.
+// Written by enumset_derive enumset_bench settings from Setting: change the source, and write this again.
 
 //! The element type of settings, whose names are long and begin alike.
 
@@ -115,7 +115,7 @@ impl EnumSetType for Setting {
 
     ghost ALL_BITS = { 79228162514264337593543950335 };
 
-    const ALL_BITS: u128 = 79228162514264337593543950335;
+    const ALL_BITS: u128 = 0xFFFFFFFFFFFFFFFFFFFFFFFF;
 
     ghost BIT_WIDTH = { 96 };
 

@@ -1,4 +1,4 @@
-// Written by enumset_derive from the enum's source: change the source, and write this module again.
+// Written by enumset_derive enumset_bench symbols from Symbol: change the source, and write this again.
 
 //! The element type of facts, over words.
 
@@ -196,10 +196,10 @@ impl EnumSetType for Symbol {
         6582955728264977243 ∷ [] };
 
     const ALL_BITS: ArrayRepr<4> = ArrayRepr([
-        6582955728264977243,
-        6582955728264977243,
-        6582955728264977243,
-        6582955728264977243,
+        0x5B5B5B5B5B5B5B5B,
+        0x5B5B5B5B5B5B5B5B,
+        0x5B5B5B5B5B5B5B5B,
+        0x5B5B5B5B5B5B5B5B,
     ]);
 
     ghost BIT_WIDTH = { 255 };

@@ -1,5 +1,5 @@
 -- Which bit a discriminant names.
---     bit_end, module_end      one past the greatest bit in a set;  in a written module
+--     bit_end      one past the greatest bit of a variant
 --     variant_limit      the greatest number of variants in an enum
 --     same_number      whether two numbers are the same
 --     and_then      the next step, unless there is a fault
@@ -9,32 +9,27 @@
 --     bit_limit, json_limit      one past the greatest bit in a representation;  in a form of JSON
 use Rattle.std.specs.Prelude.{ℕ, ◌-◌, ◌==◌, Bool, false, nat_lt, Option, Some, Result, Ok, Err, if◌then◌else◌}
 use Rattle.std.specs.Int.{is_power_of_two, trailing_zeros, w128}
-use Rattle.enumset_tokens.specs.Numbers.{width}
-use Rattle.enumset_tokens.specs.declared.number.Number.{Number}
-use Rattle.enumset_tokens.specs.declared.number.Number.TheVariants.{Small, PowerOfTwo, Negative}
-use Rattle.enumset_tokens.specs.declared.option_values.Map.{Map}
-use Rattle.enumset_tokens.specs.declared.option_values.Map.TheVariants.{Lsb, Msb, Mask, Compact}
-use Rattle.enumset_tokens.specs.declared.option_values.Representation.{Representation}
-use Rattle.enumset_tokens.specs.declared.option_values.Representation.TheVariants as representation
-use Rattle.enumset_tokens.specs.declared.option_values.Serialized.{Serialized}
-use Rattle.enumset_tokens.specs.declared.option_values.Serialized.TheVariants as serialized
+use Rattle.enumset_source.specs.Numbers.{width}
+use Rattle.enumset_source.specs.declared.number.Number.{Number}
+use Rattle.enumset_source.specs.declared.number.Number.TheVariants.{Natural, Negative}
+use Rattle.enumset_source.specs.declared.option_values.Map.{Map}
+use Rattle.enumset_source.specs.declared.option_values.Map.TheVariants.{Lsb, Msb, Mask, Compact}
+use Rattle.enumset_source.specs.declared.option_values.Representation.{Representation}
+use Rattle.enumset_source.specs.declared.option_values.Representation.TheVariants as representation
+use Rattle.enumset_source.specs.declared.option_values.Serialized.{Serialized}
+use Rattle.enumset_source.specs.declared.option_values.Serialized.TheVariants as serialized
 use Rattle.enumset_derive.specs.declared.fault.Reason.{Reason}
 use Rattle.enumset_derive.specs.declared.fault.Reason.TheVariants.{PastGreatest, PastRepresentation, NotAMask}
 
--- as in Rust's crate `enumset`
-abbrev pub bit_end : ℕ
-bit_end = 4294967232
-
 -- the constants of a module list all words of a set
-abbrev pub module_end : ℕ
-module_end = 65536
+abbrev pub bit_end : ℕ
+bit_end = 65536
 
 abbrev pub variant_limit : ℕ
 variant_limit = 256
 
 abbrev pub same_number : Number → Number → Bool
-same_number (Small m) (Small n) = m == n
-same_number (PowerOfTwo d) (PowerOfTwo e) = d == e
+same_number (Natural m) (Natural n) = m == n
 same_number (Negative m) (Negative n) = m == n
 same_number m n = false
 
@@ -44,12 +39,11 @@ and_then (Err fault) next = Err fault
 
 -- a number below `bit_end` is its own bit
 abbrev pub small_bit : Number → Result ℕ Reason
-small_bit (Small n) = if nat_lt n bit_end then Ok n else Err PastGreatest
+small_bit (Natural n) = if nat_lt n bit_end then Ok n else Err PastGreatest
 small_bit n = Err PastGreatest
 
 abbrev pub bit_of_mask : Number → Result ℕ Reason
-bit_of_mask (Small n) = if is_power_of_two n then Ok (trailing_zeros w128 n) else Err NotAMask
-bit_of_mask (PowerOfTwo e) = if nat_lt e bit_end then Ok e else Err PastGreatest
+bit_of_mask (Natural n) = if is_power_of_two n then Ok (trailing_zeros w128 n) else Err NotAMask
 bit_of_mask (Negative n) = Err NotAMask
 
 abbrev pub bit_of : Map → ℕ → ℕ → Number → Result ℕ Reason

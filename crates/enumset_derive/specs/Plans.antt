@@ -4,24 +4,24 @@
 --     IsLawfulStore, IsLawfulPlan      bits in a store, or a plan, pass the test that proves the laws of an element type
 --     kind_of      what a set is stored in: as `repr` asks, or else the smallest integer with n bits, or words
 --     IsStore, IsStoredAsAsked      a store is of this kind, for n bits;  a plan's store is as `repr` asks
-use Rattle.std.specs.Prelude.{◌≡◌, ℕ, ◌≤◌, nat_le, List, [], length, replicate, Option, Some, None, Ok, if◌then◌else◌}
+use Rattle.std.specs.Prelude.{◌≡◌, ℕ, ◌≤◌, nat_le, List, [], length, replicate, Option, Some, None, if◌then◌else◌}
 use Rattle.std.specs.Int.{div_ceil}
 use denote.Enum.Enum.{Sum}
 use denote.Enum.Declared.{Declared, rowss}
 use Rattle.enumset_repr.specs.Lawful.{IsLawfulNumber, IsLawfulWords}
-use Rattle.enumset_tokens.specs.Numbers.{width}
-use Rattle.enumset_tokens.specs.declared.option_values.IntegerType.TheVariants.{U8, U16, U32, U64, U128}
-use Rattle.enumset_tokens.specs.declared.option_values.Representation.{Representation}
-use Rattle.enumset_tokens.specs.declared.option_values.Representation.TheVariants.{Integer, Words}
-use Rattle.enumset_derive.specs.Variants.{named_variants, bits_of}
+use Rattle.enumset_source.specs.Numbers.{width}
+use Rattle.enumset_source.specs.declared.option_values.IntegerType.TheVariants.{U8, U16, U32, U64, U128}
+use Rattle.enumset_source.specs.declared.option_values.Representation.{Representation}
+use Rattle.enumset_source.specs.declared.option_values.Representation.TheVariants.{Integer, Words}
+use Rattle.enumset_derive.specs.Variants.{named_variants, plan_faults, bits_of}
 use Rattle.enumset_derive.specs.declared.plan.declaration.EnumDeclaration.{EnumDeclaration}
 use Rattle.enumset_derive.specs.declared.plan.Plan.{Plan}
 use Rattle.enumset_derive.specs.declared.plan.Store.{Store}
 use Rattle.enumset_derive.specs.declared.plan.Store.TheVariants as store
 
--- the variants have no fault, and the plan has them with their bits and their discriminants
+-- the enum has no fault, and the plan has the variants with their bits and their discriminants
 abbrev pub IsPlanned : EnumDeclaration → Plan → Type 0
-IsPlanned d plan = named_variants d ≡ Ok plan.variants.items
+IsPlanned d plan = (plan_faults d ≡ []) × ((named_variants d).0 ≡ plan.variants.items)
 
 -- an enum of n variants without fields, whose values are their places
 abbrev pub without_fields : ℕ → Declared

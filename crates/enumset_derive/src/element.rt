@@ -1,23 +1,35 @@
 //! The element types of a source: its enums with their plans.
 
 use crate::fault::{Outcome, Reason, TokenFaults};
-use crate::plan::{EnumDeclaration, NamedVariant, Plan, Store, plan_enum};
+use crate::plan::{
+    EnumDeclaration, Implied, NamedVariant, Plan, Store, discriminant_after, discriminant_of,
+    plan_enum,
+};
 use crate::report::{Note, Report};
-use enumset_tokens::{Number, Token};
+use enumset_source::{Number, Place, Token};
 use std::alloc::Global;
-use std::collections::{BTreeMap, BTreeSet};
+use std::collections::BTreeMap;
 
 const DROPPED: &str =
     "left out: the discriminants of this enum, since this one is outside -2^63 to 2^63 - 1; \
     `as` returns a variant's place";
 
-const OTHER_ORDER: &str =
-    "the derived order is the order of the places, since a discriminant is outside -2^63 to 2^63 - 1: \
-    move this variant, or write `PartialOrd` and `Ord` by hand";
+const ORDERED: &str =
+    "this discriminant is outside -2^63 to 2^63 - 1, so those of this enum are left out, and a \
+    derived order is that of the places: write `PartialOrd` and `Ord` by hand";
 
 const OTHER_CRATE: &str = "all enums of a source must have the same `crate_name`";
 
 const TAKEN: &str = "the module imports this name from `enumset`: choose another name";
+
+/// The names of types that a module may import.
+const IMPORTED: [&str; 5] = [
+    "EnumSet",
+    "EnumSetNames",
+    "EnumSetType",
+    "EnumSetTypeWithRepr",
+    "ArrayRepr",
+];
 
 /// An enum that is to be an element type, with its plan.
 #[derive(Drop)]
@@ -28,106 +40,94 @@ pub struct Element<'a, 'b> {
     pub has_discriminants: bool,
 }
 
-/// Plans the enums as element types. Their faults are reported.
+/// Plans the enums as element types. Their faults are reported, and those of several enums together.
 pub fn elements_of<'a, 'b>(
     alloc: Global,
     enums: Vec<EnumDeclaration<'a, 'b>>,
     report: &mut Report<'a, 'b>,
 ) -> Outcome<Vec<Element<'a, 'b>>> {
+    test_names(alloc, &enums, report)?;
+    test_crate_names(&enums, report)?;
     let mut elements = Vec::new(alloc);
     for declaration in enums {
-        match plan_enum(alloc, &declaration) {
-            Ok(plan) => elements.push(element_of(declaration, plan, report)?)?,
-            Err(error) => report.take(error)?,
+        let past = past_place(&declaration);
+        test_order(&declaration, past, report)?;
+        match plan_enum(alloc, &declaration)? {
+            Ok(plan) => elements.push(Element {
+                declaration,
+                plan,
+                has_discriminants: past.is_none(),
+            })?,
+            Err(faults) => report.faults.extend(faults)?,
         }
     }
-    test_names(alloc, &elements, report)?;
-    test_crate_names(&elements, report)?;
     Ok(elements)
 }
 
-/// The element type of an enum and its plan. Rattle allows discriminants from -2^63 to 2^63 - 1.
-fn element_of<'a, 'b>(
-    declaration: EnumDeclaration<'a, 'b>,
-    plan: Plan,
-    report: &mut Report<'a, 'b>,
-) -> Outcome<Element<'a, 'b>> {
-    let past = plan.variants.iter().find(|named| match named.number {
-        Number::Small(number) => number >= 1 << 63,
+/// The place of the first discriminant that Rattle does not allow: it has to be from -2^63 to 2^63 - 1.
+fn past_place(declaration: &EnumDeclaration) -> Option<Place> {
+    let mut implied = Implied::FIRST;
+    for variant in &declaration.variants {
+        let number = discriminant_of(variant, implied);
+        implied = discriminant_after(number);
+        match number {
+            Implied::Number(number) if is_past(number) => return Some(variant.number_place()),
+            _ => {}
+        }
+    }
+    None
+}
+
+/// Whether Rattle does not allow this discriminant.
+fn is_past(number: Number) -> bool {
+    match number {
+        Number::Natural(number) => number >= 1 << 63,
         Number::Negative(number) => number > 1 << 63,
-        Number::PowerOfTwo(_) => true,
-    });
-    let past = past.map(|named| named.place);
-    if let Some(place) = past {
-        report.note(Note::Text(place, DROPPED))?;
-        let is_ordered = declaration.derives("PartialOrd") || declaration.derives("Ord");
-        let mut pairs = plan.variants.array_windows::<2>();
-        let down = pairs.find(|[one, next]| !is_below(one.number, next.number));
-        if let Some([_, next]) = down.filter(|_| is_ordered) {
-            report
-                .faults
-                .push(Reason::Text(OTHER_ORDER).at(next.place))?;
-        }
-    }
-    Ok(Element {
-        declaration,
-        plan,
-        has_discriminants: past.is_none(),
-    })
-}
-
-/// Whether a number is less than another.
-fn is_below(one: Number, other: Number) -> bool {
-    match (one, other) {
-        (Number::Negative(one), Number::Negative(other)) => other < one,
-        (Number::Small(one), Number::Small(other)) => one < other,
-        (Number::PowerOfTwo(one), Number::PowerOfTwo(other)) => one < other,
-        (Number::Negative(_), _) | (Number::Small(_), Number::PowerOfTwo(_)) => true,
-        (_, _) => false,
     }
 }
 
-/// Reports names that differ only in case, and names that the module itself imports.
-fn test_names(alloc: Global, elements: &[Element], report: &mut Report) -> Outcome {
+/// Notes that the discriminants are left out, if one is not allowed. It is a fault if the enum derives an order.
+fn test_order(declaration: &EnumDeclaration, past: Option<Place>, report: &mut Report) -> Outcome {
+    let Some(place) = past else {
+        return Ok(());
+    };
+    report.note(Note::Text(place, DROPPED))?;
+    let order = declaration.derive("PartialOrd");
+    match order.or(declaration.derive("Ord")) {
+        Some(_) => report.fault(Reason::Text(ORDERED).at(place)),
+        None => Ok(()),
+    }
+}
+
+/// Reports names that differ only in case, and names that a module imports.
+fn test_names(alloc: Global, enums: &[EnumDeclaration], report: &mut Report) -> Outcome {
     let mut names: BTreeMap<String, &Token> = BTreeMap::new(alloc);
-    let mut needed: BTreeSet<&str> = BTreeSet::new(alloc);
-    for element in elements {
-        for (is_needed, path) in element.imports() {
-            if is_needed {
-                needed.insert(path.strip_prefix("internal::").unwrap_or(path))?;
-            }
-        }
-    }
-    for element in elements {
-        let name = &element.declaration.name;
+    for declaration in enums {
+        let name = &declaration.head.name;
         let key = name.text.to_ascii_lowercase(alloc)?;
         if let Some(first) = names.get(key.as_str()) {
             let reason = match first.is(name.text) {
                 true => Reason::NameTwice(first.place),
                 false => Reason::OtherCase(first.place),
             };
-            report.faults.push(reason.at(name.place))?;
+            report.fault(reason.at(name.place))?;
         }
         names.insert(key, name)?;
-        if needed.contains(name.text) {
-            report.faults.push(name.fault(TAKEN))?;
+        if IMPORTED.contains(&name.text) {
+            report.fault(name.fault(TAKEN))?;
         }
     }
     Ok(())
 }
 
 /// Reports enums whose `crate_name` differs from the first enum's.
-fn test_crate_names(elements: &[Element], report: &mut Report) -> Outcome {
-    let mut facades = elements
-        .iter()
-        .map(|element| element.declaration.options.facade());
-    let first = facades.next().unwrap_or("");
-    for element in elements {
-        let declaration = &element.declaration;
+fn test_crate_names(enums: &[EnumDeclaration], report: &mut Report) -> Outcome {
+    let first = enums.first().map_or("", |first| first.options.facade());
+    for declaration in enums {
         if declaration.options.facade() != first {
             let given = declaration.options.crate_name;
-            let place = given.map_or(declaration.name.place, |(_, place)| place);
-            report.faults.push(Reason::Text(OTHER_CRATE).at(place))?;
+            let place = given.map_or(declaration.head.name.place, |(_, place)| place);
+            report.fault(Reason::Text(OTHER_CRATE).at(place))?;
         }
     }
     Ok(())
@@ -153,6 +153,11 @@ impl Element<'_, '_> {
         ]
     }
 
+    /// Whether it has terms for clauses: not if it exists only for tests.
+    pub fn has_terms(&self) -> bool {
+        !self.declaration.head.is_for_tests
+    }
+
     /// Whether a set is stored in at most 128 bits.
     pub fn is_narrow(&self) -> bool {
         !matches!(&self.plan.store, Store::Words(words) if words.len() > 2)
@@ -172,7 +177,7 @@ impl Element<'_, '_> {
 
     /// Whether the bit of each variant is the number that `as` returns.
     pub fn are_cast(&self) -> bool {
-        let is_cast = |named: &NamedVariant| named.number == Number::Small(u128::from(named.bit));
+        let is_cast = |named: &NamedVariant| named.number == Number::Natural(u128::from(named.bit));
         match self.has_discriminants {
             true => self.plan.variants.iter().all(is_cast),
             false => self.are_places(),

@@ -5,10 +5,10 @@ ghost use Rattle.enumset_derive.specs.Variants.{fault_at};
 
 mod token_faults;
 
-use enumset_tokens::{Place, TokenError};
+use enumset_source::{Place, TokenError};
 use std::alloc::{AllocError, AllocFailed};
 use std::error::Error;
-use std::fmt;
+use std::{fmt, io};
 pub use token_faults::TokenFaults;
 
 /// Why the program did not write the whole module. Its text is printed to standard error.
@@ -19,10 +19,10 @@ pub enum DeriveError {
     OutOfMemory(AllocError),
     /// The arguments are wrong, for this reason.
     Arguments(&'static str),
-    /// Standard input or standard output failed.
-    Stream(&'static str),
-    /// The file with this name could not be written, for this reason.
-    File(String, &'static str),
+    /// Standard input or standard output failed: in what, and why.
+    Stream(&'static str, io::Error),
+    /// The file with this name could not be written.
+    File(String, io::Error),
 }
 
 impl fmt::Display for DeriveError {
@@ -30,8 +30,9 @@ impl fmt::Display for DeriveError {
         match self {
             DeriveError::Fault(fault) => write!(f, "{fault}"),
             DeriveError::OutOfMemory(_) => write!(f, "out of memory"),
-            DeriveError::Arguments(text) | DeriveError::Stream(text) => write!(f, "{text}"),
-            DeriveError::File(name, text) => write!(f, "{name}: {text}"),
+            DeriveError::Arguments(text) => write!(f, "{text}"),
+            DeriveError::Stream(what, error) => write!(f, "{what}: {error}"),
+            DeriveError::File(name, error) => write!(f, "{name}: {error}"),
         }
     }
 }
@@ -123,7 +124,6 @@ pub enum Reason {
     ImpliedTooLarge,
     PastRepresentation { bit: u32, width: u32 },
     PastSerialized { bit: u32, width: u32 },
-    PastWords(u32),
     BitTwice(Place),
     DiscriminantTwice(Place),
     /// Where an enum is whose name differs from this one only in case.
@@ -148,19 +148,18 @@ impl fmt::Display for Reason {
                     "a mask must be a power of two; the empty set is `EnumSet::empty()`"
                 )
             }
-            Reason::PastGreatest => write!(f, "a bit must be from 0 to 4294967231"),
+            Reason::PastGreatest => {
+                write!(
+                    f,
+                    "a bit must be from 0 to 65535; `map = \"compact\"` uses the places as bits"
+                )
+            }
             Reason::ImpliedTooLarge => write!(f, "the implied discriminant is past 2^128"),
             Reason::PastRepresentation { bit, width } => {
                 write!(f, "`repr` is too small: bit {bit}, width {width}")
             }
             Reason::PastSerialized { bit, width } => {
                 write!(f, "`serialize_repr` is too small: bit {bit}, width {width}")
-            }
-            Reason::PastWords(bit) => {
-                write!(
-                    f,
-                    "bit {bit} does not fit in 1024 words; `map = \"compact\"` uses the places as bits"
-                )
             }
             Reason::BitTwice(first) => write!(f, "this bit was already taken at {first}"),
             Reason::DiscriminantTwice(first) => {

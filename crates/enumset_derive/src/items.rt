@@ -1,7 +1,7 @@
 //! The items of a source and the attributes before them. Items are found only by brackets and semicolons.
 
 use crate::fault::{Outcome, TokenFaults};
-use enumset_tokens::{Kind, Token};
+use enumset_source::{Kind, Token};
 use std::alloc::{AllocError, Global};
 
 /// The keywords that can follow `const` in an item that is not a constant.
@@ -34,9 +34,9 @@ impl<'a, 'b> Item<'a, 'b> {
         skip(self.tokens, visibility_length(self.tokens))
     }
 
-    /// Whether it has this keyword.
-    pub fn is(&self, keyword: &str) -> bool {
-        self.words().first().is_some_and(|first| first.is(keyword))
+    /// Whether it is an inner attribute or a comment `//!`.
+    pub fn is_inner(&self) -> bool {
+        inner_length(self.tokens) > 0
     }
 }
 
@@ -81,7 +81,7 @@ fn skip<'a, 'b>(tokens: &'b [Token<'a>], count: usize) -> &'b [Token<'a>] {
 
 /// The number of tokens up to the end of a bracket. `rest` follows its beginning `open`, and `before` tokens precede
 /// it.
-fn bracket_length(before: usize, open: &Token, rest: &[Token]) -> usize {
+pub fn bracket_length(before: usize, open: &Token, rest: &[Token]) -> usize {
     let inside = rest.iter().take_while(|token| token.depth >= open.depth);
     inside.count().saturating_add(before).saturating_add(1)
 }

@@ -10,19 +10,21 @@
 mod element;
 mod fault;
 mod items;
+mod output;
 mod plan;
 mod read;
 mod report;
 mod write;
 
-use element::elements_of;
-use enumset_tokens::{Place, tokens_of};
+use element::{Element, elements_of};
+use enumset_source::{Place, tokens_of};
 use fault::{DeriveError, Outcome, Reason};
+use output::{Output, write_output};
 use read::{Source, read_source};
+use report::{Note, Report};
 use std::alloc::{AllocError, Global};
 use std::env::{self, Env};
-use std::fs;
-use std::io::{self, ErrorKind, Input, Print, Read, Write};
+use std::io::{self, ErrorKind, Input, Print, Read};
 use std::process::ExitCode;
 use std::rt::Files;
 use write::{bits_text, module_text};
@@ -34,23 +36,20 @@ const WRONG: DeriveError = DeriveError::Arguments(
     output, and --bits writes terms for contracts to FILE",
 );
 
+const ONLY_TESTS: &str = "left out of the terms, since this enum exists only for tests";
+
 /// What the program is to write, and where.
 #[derive(Drop)]
 pub struct Request<'a> {
     pub crate_name: &'a str,
-    /// Its path, with a dot between two names.
+    /// The path of the module.
+    pub path: &'a str,
+    /// The same, with a dot between two names.
     pub module: String,
     /// The file that the module is written to, if not standard output.
     pub file: Option<&'a str>,
     /// The file that the terms for contracts are written to, if there is one.
     pub bits: Option<&'a str>,
-}
-
-/// What the program writes for a source without a fault.
-#[derive(Drop)]
-struct Output {
-    module: String,
-    bits: String,
 }
 
 fn main(rt: HostRuntime) -> ExitCode {
@@ -67,26 +66,16 @@ fn main(rt: HostRuntime) -> ExitCode {
     })
 }
 
-/// Reads the arguments and the source, and writes the module. Returns `false` if the source has faults, which are then
-/// on standard error.
+/// Reads the arguments and the source, and writes the module. Returns `false` if the source has faults or no element
+/// type, which standard error then says.
 fn answer<R: Env + Files + Input + Print + Eprint + AllocGlobal>(rt: &R) -> Outcome<bool> {
     let arguments = env::args(rt).map_err(|error| fault_of(error, NOT_A_NAME))?;
     let arguments: Vec<String> = arguments.collect(rt.alloc())?;
     let request = request_of(rt.alloc(), &arguments)?;
-    let Some(Output { module, bits }) = derive(rt, &request)? else {
-        return Ok(false);
-    };
-    match request.file {
-        Some(file) => write_file(rt, file, module.as_str())?,
-        None => {
-            let written = io::writer(rt).write_all(module.as_str().as_bytes());
-            written.map_err(|_| DeriveError::Stream("writing failed"))?;
-        }
+    match derive(rt, &request)? {
+        Some(output) => write_output(rt, &request, &output).map(|()| true),
+        None => Ok(false),
     }
-    if let Some(file) = request.bits {
-        write_file(rt, file, bits.as_str())?;
-    }
-    Ok(true)
 }
 
 /// The fault for an error of the system: out of memory, or else this one.
@@ -108,6 +97,7 @@ fn request_of(alloc: Global, arguments: &[String]) -> Outcome<Request<'_>> {
     }
     let mut request = Request {
         crate_name,
+        path,
         module: path.replace(alloc, "::", ".")?,
         file: None,
         bits: None,
@@ -136,13 +126,13 @@ fn is_name(name: &str) -> bool {
     matches!(name.len(), 1..=256) && name.chars().all(is_plain) && !name.starts_with(is_digit)
 }
 
-/// What is written for the source on standard input, or `None` if it has faults. The faults, or else the notes, are
-/// written to standard error.
+/// What is written for the source on standard input, or `None` if it has faults or no element type. The faults, or else
+/// the notes, are written to standard error.
 fn derive<R: Input + Eprint + AllocGlobal>(rt: &R, request: &Request) -> Outcome<Option<Output>> {
     let alloc = rt.alloc();
     let mut input = Vec::new(alloc);
     let read = rt.reader().read_to_end(&mut input);
-    read.map_err(|error| fault_of(error, DeriveError::Stream("reading failed")))?;
+    read.map_err(|error| fault_of(error, DeriveError::Stream("reading failed", error)))?;
     let text = text_of(&input)?.replace(alloc, "\r\n", "\n")?;
     let tokens = tokens_of(alloc, text.as_str())?;
     let Source {
@@ -151,6 +141,9 @@ fn derive<R: Input + Eprint + AllocGlobal>(rt: &R, request: &Request) -> Outcome
         mut report,
     } = read_source(alloc, &tokens)?;
     let elements = elements_of(alloc, enums, &mut report)?;
+    if request.bits.is_some() {
+        note_without_terms(&elements, &mut report)?;
+    }
     report.sort()?;
     for fault in &report.faults {
         let _ = eprintln!(rt; "{fault}");
@@ -161,8 +154,12 @@ fn derive<R: Input + Eprint + AllocGlobal>(rt: &R, request: &Request) -> Outcome
     for note in &report.notes {
         let _ = eprintln!(rt; "{note}");
     }
-    if elements.is_empty() && tokens.len() > 1 {
+    if report.has_items_left_out() {
+        let _ = eprintln!(rt; "put the items that are left out into files of your own");
+    }
+    if elements.is_empty() {
         let _ = eprintln!(rt; "no enum derives EnumSetType");
+        return Ok(None);
     }
     Ok(Some(Output {
         module: module_text(alloc, request, &docs, &elements)?,
@@ -179,13 +176,12 @@ fn text_of(input: &[u8]) -> Outcome<&str> {
     Ok(str::from_utf8(input).map_err(|_| fault)?)
 }
 
-/// Writes a text to a file.
-fn write_file<R: Files + AllocGlobal>(rt: &R, file: &str, text: &str) -> Outcome {
-    let why = match fs::write(rt, file, text) {
-        Ok(()) => return Ok(()),
-        Err(error) if error.kind() == ErrorKind::NotFound => "there is no such folder",
-        Err(_) => "writing failed",
-    };
-    let file = String::from_str(rt.alloc(), file)?;
-    Err(DeriveError::File(file, why))
+/// Notes the enums that have no terms for clauses.
+fn note_without_terms(elements: &[Element], report: &mut Report) -> Outcome {
+    for element in elements {
+        if !element.has_terms() {
+            report.note(Note::Text(element.declaration.head.name.place, ONLY_TESTS))?;
+        }
+    }
+    Ok(())
 }

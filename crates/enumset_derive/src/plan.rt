@@ -5,17 +5,20 @@ ghost use Rattle.enumset_repr.specs.Number.{is_distinct, lists_bits};
 ghost use Rattle.enumset_repr.specs.Words.{lists_words};
 ghost use Rattle.enumset_repr.specs.Lawful.{one_past_all};
 ghost use Rattle.enumset_derive.specs.Numbers.{bit_end, bit_limit};
-ghost use Rattle.enumset_derive.specs.Variants.{named_variants, bits_of, IsErrorOf};
+ghost use Rattle.enumset_derive.specs.Variants.{map_fault, plan_faults, bits_of};
 ghost use Rattle.enumset_derive.specs.Plans.{kind_of, IsPlanned, IsLawfulPlan, IsStoredAsAsked};
 
 mod declaration;
 mod variants;
 
-use crate::fault::{DeriveError, Reason};
-pub use declaration::{Derive, Discriminant, EnumDeclaration, Line, Options, Variant};
-use enumset_tokens::{IntegerType, Map, Number, Place, Representation};
+use crate::fault::{Fault, Reason};
+pub use declaration::{
+    Derive, Discriminant, EnumDeclaration, EnumHead, Given, Line, Options, Rename, Variant,
+};
+use enumset_source::{IntegerType, Map, Number, Place, Representation};
 use std::alloc::{AllocError, Global};
-use variants::name_variants;
+pub use variants::{Implied, discriminant_after, discriminant_of};
+use variants::{Named, name_variants, push_some};
 
 /// What the implementation of an element type states.
 #[derive(Drop)]
@@ -47,26 +50,61 @@ pub enum Store {
     Words(Vec<u64>),
 }
 
-/// The plan of an element type, or the first fault of its declaration. A `map = "msb"` without an integer is the first
-/// fault. Then the variants are checked one after another.
-pub fn plan_enum(alloc: Global, declaration: &EnumDeclaration) -> Result<Plan, DeriveError>
-    ensures bits { IfOk result (IsPlanned declaration.now) }
-    ensures lawful { IfOk result (IsLawfulPlan (length declaration.now.variants.items)) }
-    ensures representation { IfOk result (IsStoredAsAsked declaration.now.options.representation) }
-    ensures fault { IfErr result (IsErrorOf (named_variants declaration.now)) }
+/// The plan of an element type, or the faults of its variants and of its map. There may be none of these if a discriminant
+/// could not be read.
+pub fn plan_enum(
+    alloc: Global,
+    declaration: &EnumDeclaration,
+) -> Result<Result<Plan, Vec<Fault>>, AllocError>
+    ensures bits { IfOk result (λ planned. IfOk planned (IsPlanned declaration.now)) }
+    ensures lawful { IfOk result (λ planned. IfOk planned (IsLawfulPlan (length declaration.now.variants.items))) }
+    ensures representation { IfOk result (λ planned.
+        IfOk planned (IsStoredAsAsked declaration.now.options.representation)) }
+    ensures faults { IfOk result (λ planned. IfErr planned (λ faults. plan_faults declaration.now ≡ faults.items)) }
 {
     let options = &declaration.options;
-    let asked = options.representation;
-    if let (Some((Map::Msb, place)), None | Some(Representation::Words)) = (options.map, asked) {
-        return Err(DeriveError::Fault(Reason::IntegerMissing.at(place)));
+    let declared = declaration.variants.as_slice();
+    let Named {
+        variants,
+        mut faults,
+    } = name_variants(alloc, options, declared)?;
+    push_some(&mut faults, map_fault(options))?;
+    if !faults.is_empty() || variants.len() != declared.len() {
+        return Ok(Err(faults));
     }
-    let variants = name_variants(alloc, options, declaration.variants.as_slice())?;
+    Ok(Ok(plan_of(alloc, options.representation, variants)?))
+}
+
+/// The fault of `map = "msb"` without an integer.
+fn map_fault(options: &Options) -> Option<Fault>
+    ensures { result ≡ map_fault options.now.map options.now.representation }
+{
+    match (options.map, options.representation) {
+        (Some((Map::Msb, place)), None | Some(Representation::Words)) => {
+            Some(Reason::IntegerMissing.at(place))
+        }
+        _ => None,
+    }
+}
+
+/// The plan with these variants, whose sets are stored as `repr` asks.
+fn plan_of(
+    alloc: Global,
+    asked: Option<Representation>,
+    variants: Vec<NamedVariant>,
+) -> Result<Plan, AllocError>
+    requires distinct { IsTrue (is_distinct (bits_of variants.items)) }
+    requires range { one_past_all (bits_of variants.items) ≤ bit_limit asked }
+    ensures variants { IfOk result (λ plan. plan.variants ≡ variants) }
+    ensures lawful { IfOk result (IsLawfulPlan (length variants.items)) }
+    ensures representation { IfOk result (IsStoredAsAsked asked) }
+{
     let bit_width = width_of(variants.as_slice());
     let store = match kind_of(asked, bit_width) {
         Representation::Integer(integer) => Store::Integer(integer, number_of(variants.as_slice())),
         Representation::Words => {
-            let words = words_of(alloc, variants.as_slice(), bit_width.div_ceil(64));
-            Store::Words(words.map_err(DeriveError::OutOfMemory)?)
+            let words = words_of(alloc, variants.as_slice(), bit_width.div_ceil(64))?;
+            Store::Words(words)
         }
     };
     Ok(Plan {

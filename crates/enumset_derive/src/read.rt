@@ -4,9 +4,7 @@ mod attributes;
 mod derives;
 mod discriminants;
 mod enums;
-mod imports;
 mod json_names;
-mod lines;
 mod options;
 mod others;
 mod variants;
@@ -15,10 +13,9 @@ use crate::fault::Outcome;
 use crate::items::{Attribute, Item, Items};
 use crate::plan::EnumDeclaration;
 use crate::report::Report;
-use derives::has_element_type;
+use derives::names_element_type;
 use enums::read_enum;
-use enumset_tokens::{Kind, Token};
-use imports::Imports;
+use enumset_source::{Kind, Token};
 use others::leave_out;
 use std::alloc::Global;
 
@@ -31,21 +28,9 @@ pub struct Source<'a, 'b> {
     pub report: Report<'a, 'b>,
 }
 
-/// The state while a source is read.
-#[derive(Drop)]
-struct Reader<'a, 'b> {
-    alloc: Global,
-    imports: Imports<'a>,
-    report: Report<'a, 'b>,
-}
-
 /// Reads the parts of a source that are written to its module. Faults, and what is left out, are reported.
 pub fn read_source<'a, 'b>(alloc: Global, tokens: &'b [Token<'a>]) -> Outcome<Source<'a, 'b>> {
-    let mut reader = Reader {
-        alloc,
-        imports: Imports::of(alloc, tokens)?,
-        report: Report::new(alloc),
-    };
+    let mut report = Report::new(alloc);
     let mut docs = Vec::new(alloc);
     let mut enums = Vec::new(alloc);
     let mut is_head = true;
@@ -57,38 +42,33 @@ pub fn read_source<'a, 'b>(alloc: Global, tokens: &'b [Token<'a>]) -> Outcome<So
         match item.tokens {
             [doc] if is_head && matches!(doc.kind, Kind::InnerDoc) => docs.push(doc.text)?,
             _ => {
-                is_head = false;
-                match read_item(&mut reader, &item) {
-                    Ok(Some(declaration)) => enums.push(declaration)?,
-                    Ok(None) => {}
-                    Err(error) => reader.report.take(error)?,
-                }
+                is_head &= item.is_inner();
+                enums.extend(read_item(alloc, &mut report, &item)?)?;
             }
         }
     }
     Ok(Source {
         docs,
         enums,
-        report: reader.report,
+        report,
     })
 }
 
 /// Reads an item if it derives `EnumSetType`, and otherwise leaves it out.
 fn read_item<'a, 'b>(
-    reader: &mut Reader<'a, 'b>,
+    alloc: Global,
+    report: &mut Report<'a, 'b>,
     item: &Item<'a, 'b>,
 ) -> Outcome<Option<EnumDeclaration<'a, 'b>>> {
-    if has_name(&reader.imports, item.attributes) {
-        let (attributes, _) = Attribute::before(reader.alloc, item.attributes)?;
-        if has_element_type(&attributes, &reader.imports)? {
-            return read_enum(reader, item, &attributes);
+    if item.attributes.iter().any(|word| word.is("EnumSetType")) {
+        let (attributes, _) = Attribute::before(alloc, item.attributes)?;
+        let is_named = |attribute: &Attribute| {
+            names_element_type(attribute, "derive") || names_element_type(attribute, "cfg_attr")
+        };
+        if attributes.iter().any(is_named) {
+            return read_enum(alloc, report, item, &attributes);
         }
     }
-    leave_out(&reader.imports, &mut reader.report, item)?;
+    leave_out(report, item)?;
     Ok(None)
-}
-
-/// Whether `EnumSetType` is named among the tokens.
-fn has_name(imports: &Imports, tokens: &[Token]) -> bool {
-    tokens.iter().any(|word| imports.is_element_type(&*word))
 }

@@ -1,8 +1,7 @@
 //! The report on a source, which is printed to standard error.
 
 use crate::fault::{DeriveError, Fault, Outcome};
-use crate::items::Item;
-use enumset_tokens::{Place, Token, Written};
+use enumset_source::{Place, Token, Written};
 use std::alloc::Global;
 use std::fmt;
 
@@ -21,12 +20,23 @@ impl<'a, 'b> Report<'a, 'b> {
         }
     }
 
+    /// Records a fault.
+    pub fn fault(&mut self, fault: Fault) -> Outcome {
+        Ok(self.faults.push(fault)?)
+    }
+
     /// Records a fault, so that reading goes on and finds others. Any other error is returned.
     pub fn take(&mut self, error: DeriveError) -> Outcome {
         match error {
-            DeriveError::Fault(fault) => Ok(self.faults.push(fault)?),
+            DeriveError::Fault(fault) => self.fault(fault),
             error => Err(error),
         }
+    }
+
+    /// Whether an item is left out.
+    pub fn has_items_left_out(&self) -> bool {
+        let mut notes = self.notes.iter();
+        notes.any(|note| matches!(note, Note::Item(_, _, _)))
     }
 
     /// Records a note.
@@ -45,10 +55,10 @@ impl<'a, 'b> Report<'a, 'b> {
 /// A remark on a place in a source that is not a fault.
 #[derive(Drop)]
 pub enum Note<'a, 'b> {
-    /// An item that is left out.
-    Item(&'b Token<'a>, Item<'a, 'b>),
-    /// The name of an element type inside such an item, and what the item is.
-    Inside(&'b Token<'a>, &'static str),
+    /// An item that is left out: where it begins, its last line, and what it is.
+    Item(Place, u32, &'static str),
+    /// The place and the name of an element type inside such an item, and what the item is.
+    Inside(Place, &'a str, &'static str),
     /// An attribute that is left out.
     Attribute(Place, &'b [Token<'a>]),
     /// A path in a derive that is left out.
@@ -60,8 +70,11 @@ impl Note<'_, '_> {
     /// The place that it is about.
     fn place(&self) -> Place {
         match self {
-            Note::Item(token, _) | Note::Inside(token, _) => token.place,
-            Note::Attribute(place, _) | Note::Derive(place, _) | Note::Text(place, _) => *place,
+            Note::Item(place, _, _)
+            | Note::Inside(place, _, _)
+            | Note::Attribute(place, _)
+            | Note::Derive(place, _)
+            | Note::Text(place, _) => *place,
         }
     }
 }
@@ -69,28 +82,29 @@ impl Note<'_, '_> {
 impl fmt::Display for Note<'_, '_> {
     fn fmt<W: fmt::Write>(&self, f: &mut fmt::Formatter<W>) -> fmt::Result {
         match self {
-            Note::Item(first, item) => {
-                let first = first.place.line;
-                match item.tokens.last().map_or(first, |last| last.place.line) {
-                    last if last > first => write!(f, "lines {first} to {last}")?,
-                    _ => write!(f, "line {first}")?,
+            Note::Item(first, last, what) => {
+                let first = first.line;
+                match *last > first {
+                    true => write!(f, "lines {first} to {last}: left out: {what}"),
+                    false => write!(f, "line {first}: left out: {what}"),
                 }
-                write!(f, ": left out: {}", FirstWords(item.words()))?;
-                f.write_str(": put it into a file of your own")
             }
-            Note::Inside(name, what) => {
-                let (line, name) = (name.place.line, name.text);
+            Note::Inside(place, name, what) => {
+                let space = if name.is_empty() { "" } else { " " };
                 write!(
                     f,
-                    "line {line}: the element type {name} is inside {what}: move it to the top level"
+                    "line {}: the element type{space}{name} is inside {what}: move it to the top level",
+                    place.line
                 )
             }
             Note::Attribute(place, tokens) => {
-                write!(
-                    f,
-                    "{place}: left out: {} has no meaning here",
-                    Written(*tokens)
-                )
+                write!(f, "{place}: left out: {}", Written(*tokens))?;
+                f.write_str(match tokens {
+                    [_, _, name, ..] if name.is("cfg_attr") => {
+                        ": `cfg_attr` is not supported: write what you want of it without it"
+                    }
+                    _ => " has no meaning here",
+                })
             }
             Note::Derive(place, path) => {
                 write!(
@@ -100,32 +114,5 @@ impl fmt::Display for Note<'_, '_> {
             }
             Note::Text(place, text) => write!(f, "{place}: {text}"),
         }
-    }
-}
-
-/// The first tokens of an item, up to its body or value.
-#[derive(Clone, Copy)]
-struct FirstWords<'a, 'b>(&'b [Token<'a>]);
-
-impl fmt::Display for FirstWords<'_, '_> {
-    fn fmt<W: fmt::Write>(&self, f: &mut fmt::Formatter<W>) -> fmt::Result {
-        let ends = match self.0 {
-            [first, ..] if first.is("use") => ";",
-            [first, ..] if first.is("impl") => "{;",
-            _ => "{(=;",
-        };
-        for (index, token) in self.0.iter().take(12).enumerate() {
-            if index > 0 && token.is_punct(ends) {
-                break;
-            }
-            if index > 0 && !token.space.is_empty() {
-                f.write_str(" ")?;
-            }
-            if token.text.len() > 80 {
-                return f.write_str("..");
-            }
-            f.write_str(token.text)?;
-        }
-        Ok(())
     }
 }

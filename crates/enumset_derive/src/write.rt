@@ -16,10 +16,6 @@ use element_type::write_element_type;
 use imports::imports_of;
 use std::alloc::{AllocError, Global};
 
-/// The line that a module begins with.
-const HEAD: &str =
-    "// Written by enumset_derive from the enum's source: change the source, and write this module again.\n";
-
 /// What is written, or an error if memory runs out.
 type Written<T = ()> = Result<T, AllocError>;
 
@@ -56,14 +52,13 @@ fn library_of(facade: &str) -> &'static str {
 
 /// The text of the module with these doc comments and element types.
 pub fn module_text(alloc: Global, request: &Request, docs: &[&str], elements: &[Element]) -> Text {
-    let mut text = String::from_str(alloc, HEAD)?;
-    if !docs.is_empty() || !elements.is_empty() {
-        text.push('\n')?;
-    }
+    let mut text = String::from_str(alloc, "// ")?;
+    write_origin(&mut text, request, elements)?;
+    text.push_str(": change the source, and write this again.\n\n")?;
     for doc in docs {
         write!(text, "{doc}\n")?;
     }
-    if !docs.is_empty() && !elements.is_empty() {
+    if !docs.is_empty() {
         text.push('\n')?;
     }
     text.push_str(imports_of(alloc, elements)?.as_str())?;
@@ -74,11 +69,25 @@ pub fn module_text(alloc: Global, request: &Request, docs: &[&str], elements: &[
             module: request.module.as_str(),
             element,
             facade: element.declaration.options.facade(),
-            name: element.declaration.name.text,
+            name: element.declaration.head.name.text,
         };
         text.push('\n')?;
         write_element_type(&mut text, &subject)?;
         text.push('\n')?;
     }
     Ok(text)
+}
+
+/// Writes what wrote a file: the arguments of the program, and the enums of its source.
+fn write_origin(out: &mut String, request: &Request, elements: &[Element]) -> Written {
+    write!(
+        out,
+        "Written by enumset_derive {} {} from ",
+        request.crate_name, request.path
+    )?;
+    for (index, element) in elements.iter().enumerate() {
+        let separator = if index > 0 { ", " } else { "" };
+        write!(out, "{separator}{}", element.declaration.head.name.text)?;
+    }
+    Ok(())
 }

@@ -1,4 +1,4 @@
-// Written by enumset_derive from the enum's source: change the source, and write this module again.
+// Written by enumset_derive enumset_worked four from Four: change the source, and write this again.
 
 //! The worked type `four`.
 
@@ -27,7 +27,7 @@ impl EnumSetType for Four {
 
     ghost ALL_BITS = { 15 };
 
-    const ALL_BITS: u8 = 15;
+    const ALL_BITS: u8 = 0xF;
 
     ghost BIT_WIDTH = { 4 };
 

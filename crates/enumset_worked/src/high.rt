@@ -1,4 +1,4 @@
-// Written by enumset_derive from the enum's source: change the source, and write this module again.
+// Written by enumset_derive enumset_worked high from High: change the source, and write this again.
 
 //! The worked type `high`.
 
@@ -26,7 +26,7 @@ impl EnumSetType for High {
 
     ghost ALL_BITS = { 224 };
 
-    const ALL_BITS: u8 = 224;
+    const ALL_BITS: u8 = 0xE0;
 
     ghost BIT_WIDTH = { 8 };
 

@@ -1,4 +1,4 @@
-// Written by enumset_derive from the enum's source: change the source, and write this module again.
+// Written by enumset_derive enumset_worked letters from Letters: change the source, and write this again.
 
 //! The worked type `letters`.
 
@@ -31,7 +31,7 @@ impl EnumSetType for Letters {
 
     ghost ALL_BITS = { 127 };
 
-    const ALL_BITS: u8 = 127;
+    const ALL_BITS: u8 = 0x7F;
 
     ghost BIT_WIDTH = { 7 };
 

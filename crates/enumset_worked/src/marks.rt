@@ -1,4 +1,4 @@
-// Written by enumset_derive from the enum's source: change the source, and write this module again.
+// Written by enumset_derive enumset_worked marks from Marks: change the source, and write this again.
 
 //! The worked type `marks`.
 
@@ -26,7 +26,7 @@ impl EnumSetType for Marks {
 
     ghost ALL_BITS = { 7 };
 
-    const ALL_BITS: u8 = 7;
+    const ALL_BITS: u8 = 0x7;
 
     ghost BIT_WIDTH = { 3 };
 

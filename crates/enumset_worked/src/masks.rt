@@ -1,4 +1,4 @@
-// Written by enumset_derive from the enum's source: change the source, and write this module again.
+// Written by enumset_derive enumset_worked masks from Masks: change the source, and write this again.
 
 //! The worked type `masks`.
 
@@ -26,7 +26,7 @@ impl EnumSetType for Masks {
 
     ghost ALL_BITS = { 81 };
 
-    const ALL_BITS: u8 = 81;
+    const ALL_BITS: u8 = 0x51;
 
     ghost BIT_WIDTH = { 7 };
 

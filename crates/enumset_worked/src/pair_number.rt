@@ -1,4 +1,4 @@
-// Written by enumset_derive from the enum's source: change the source, and write this module again.
+// Written by enumset_derive enumset_worked pair_number from PairNumber: change the source, and write this again.
 
 //! The worked type `pair-number`.
 
@@ -25,7 +25,7 @@ impl EnumSetType for PairNumber {
 
     ghost ALL_BITS = { 18446744073709551617 };
 
-    const ALL_BITS: u128 = 18446744073709551617;
+    const ALL_BITS: u128 = 0x10000000000000001;
 
     ghost BIT_WIDTH = { 65 };
 

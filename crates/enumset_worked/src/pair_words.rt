@@ -1,4 +1,4 @@
-// Written by enumset_derive from the enum's source: change the source, and write this module again.
+// Written by enumset_derive enumset_worked pair_words from PairWords: change the source, and write this again.
 
 //! The worked type `pair-words`.
 
@@ -26,7 +26,7 @@ impl EnumSetType for PairWords {
 
     ghost ALL_BITS = { 1 ∷ 1 ∷ [] };
 
-    const ALL_BITS: ArrayRepr<2> = ArrayRepr([1, 1]);
+    const ALL_BITS: ArrayRepr<2> = ArrayRepr([0x1, 0x1]);
 
     ghost BIT_WIDTH = { 65 };
 

@@ -1,4 +1,4 @@
-// Written by enumset_derive from the enum's source: change the source, and write this module again.
+// Written by enumset_derive enumset_worked single from Single: change the source, and write this again.
 
 //! The worked type `single`.
 
@@ -24,7 +24,7 @@ impl EnumSetType for Single {
 
     ghost ALL_BITS = { 1 };
 
-    const ALL_BITS: u8 = 1;
+    const ALL_BITS: u8 = 0x1;
 
     ghost BIT_WIDTH = { 1 };
 

@@ -1,4 +1,4 @@
-// Written by enumset_derive from the enum's source: change the source, and write this module again.
+// Written by enumset_derive enumset_worked sparse from Sparse: change the source, and write this again.
 
 //! The worked type `sparse`.
 
@@ -27,7 +27,7 @@ impl EnumSetType for Sparse {
 
     ghost ALL_BITS = { 170141183460469231731687303716958897152 };
 
-    const ALL_BITS: u128 = 170141183460469231731687303716958897152;
+    const ALL_BITS: u128 = 0x80000000000000000000000040100400;
 
     ghost BIT_WIDTH = { 128 };
 

@@ -1,4 +1,4 @@
-// Written by enumset_derive from the enum's source: change the source, and write this module again.
+// Written by enumset_derive enumset_worked wide from Wide: change the source, and write this again.
 
 //! The worked type `wide`.
 
@@ -27,7 +27,7 @@ impl EnumSetType for Wide {
 
     ghost ALL_BITS = { 8 ∷ 1 ∷ 4 ∷ [] };
 
-    const ALL_BITS: ArrayRepr<3> = ArrayRepr([8, 1, 4]);
+    const ALL_BITS: ArrayRepr<3> = ArrayRepr([0x8, 0x1, 0x4]);
 
     ghost BIT_WIDTH = { 131 };
 

@@ -1,4 +1,4 @@
-// Written by enumset_derive from the enum's source: change the source, and write this module again.
+// Written by enumset_derive example_expressions kind from Kind: change the source, and write this again.
 
 //! The kinds of tokens.
 
@@ -28,7 +28,7 @@ impl EnumSetType for Kind {
 
     ghost ALL_BITS = { 255 };
 
-    const ALL_BITS: u8 = 255;
+    const ALL_BITS: u8 = 0xFF;
 
     ghost BIT_WIDTH = { 8 };
 

@@ -1,4 +1,4 @@
-// Written by enumset_derive from the enum's source: change the source, and write this module again.
+// Written by enumset_derive example_expressions part from Part: change the source, and write this again.
 
 //! The parts of expressions.
 
@@ -25,7 +25,7 @@ impl EnumSetType for Part {
 
     ghost ALL_BITS = { 7 };
 
-    const ALL_BITS: u8 = 7;
+    const ALL_BITS: u8 = 0x7;
 
     ghost BIT_WIDTH = { 3 };
 

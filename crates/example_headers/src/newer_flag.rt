@@ -1,4 +1,4 @@
-// Written by enumset_derive from the enum's source: change the source, and write this module again.
+// Written by enumset_derive example_headers newer_flag from NewerFlag: change the source, and write this again.
 
 //! The flags of a frame that version 2 knows.
 
@@ -29,7 +29,7 @@ impl EnumSetType for NewerFlag {
 
     ghost ALL_BITS = { 79 };
 
-    const ALL_BITS: u8 = 79;
+    const ALL_BITS: u8 = 0x4F;
 
     ghost BIT_WIDTH = { 7 };
 

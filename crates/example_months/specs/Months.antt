@@ -1,4 +1,4 @@
--- Written by enumset_derive from the enum's source: change the source, and write this file again.
+-- Written by enumset_derive example_months months from Month: change the source, and write this again.
 use Rattle.std.specs.Prelude.{ℕ}
 use Rattle.enumset.specs.Sets.{in_place}
 use Rattle.example_months.specs.contracts.months.Month.{the_type}

@@ -1,4 +1,4 @@
-// Written by enumset_derive from the enum's source: change the source, and write this module again.
+// Written by enumset_derive example_months months from Month: change the source, and write this again.
 
 use enumset::{EnumSet, EnumSetType, EnumSetTypeWithRepr};
 
@@ -28,7 +28,7 @@ impl EnumSetType for Month {
 
     ghost ALL_BITS = { 4095 };
 
-    const ALL_BITS: u16 = 4095;
+    const ALL_BITS: u16 = 0xFFF;
 
     ghost BIT_WIDTH = { 12 };
 

@@ -1,4 +1,4 @@
-// Written by enumset_derive from the enum's source: change the source, and write this module again.
+// Written by enumset_derive example_permissions rights from Right: change the source, and write this again.
 
 //! What may be done with a document.
 
@@ -23,7 +23,7 @@ impl EnumSetType for Right {
 
     ghost ALL_BITS = { 15 };
 
-    const ALL_BITS: u8 = 15;
+    const ALL_BITS: u8 = 0xF;
 
     ghost BIT_WIDTH = { 4 };
 

@@ -1,4 +1,4 @@
-// Written by enumset_derive from the enum's source: change the source, and write this module again.
+// Written by enumset_derive example_permissions roles from Role: change the source, and write this again.
 
 //! What a user of documents may be.
 
@@ -22,7 +22,7 @@ impl EnumSetType for Role {
 
     ghost ALL_BITS = { 7 };
 
-    const ALL_BITS: u8 = 7;
+    const ALL_BITS: u8 = 0x7;
 
     ghost BIT_WIDTH = { 3 };
 

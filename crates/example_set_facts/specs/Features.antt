@@ -1,4 +1,4 @@
--- Written by enumset_derive from the enum's source: change the source, and write this file again.
+-- Written by enumset_derive example_set_facts features from Feature: change the source, and write this again.
 use Rattle.std.specs.Prelude.{ℕ, List, ◌∷◌, [], codes, Option, Result}
 use Rattle.enumset.specs.Sets.{BitSet, in_place}
 use Rattle.enumset.specs.JsonNames.{set_of_list}

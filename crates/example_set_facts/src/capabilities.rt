@@ -1,4 +1,4 @@
-// Written by enumset_derive from the enum's source: change the source, and write this module again.
+// Written by enumset_derive example_set_facts capabilities from Capability: change the source, and write this again.
 
 use enumset::{EnumSetType, EnumSetTypeWithRepr};
 
@@ -27,7 +27,7 @@ impl EnumSetType for Capability {
 
     ghost ALL_BITS = { 5943 };
 
-    const ALL_BITS: u16 = 5943;
+    const ALL_BITS: u16 = 0x1737;
 
     ghost BIT_WIDTH = { 13 };
 

@@ -1,4 +1,4 @@
-// Written by enumset_derive from the enum's source: change the source, and write this module again.
+// Written by enumset_derive example_set_facts features from Feature: change the source, and write this again.
 
 use enumset::{EnumSet, EnumSetNames, EnumSetType, EnumSetTypeWithRepr, names_of, set_json};
 
@@ -23,7 +23,7 @@ impl EnumSetType for Feature {
 
     ghost ALL_BITS = { 63 };
 
-    const ALL_BITS: u8 = 63;
+    const ALL_BITS: u8 = 0x3F;
 
     ghost BIT_WIDTH = { 6 };
 

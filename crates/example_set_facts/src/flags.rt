@@ -1,4 +1,4 @@
-// Written by enumset_derive from the enum's source: change the source, and write this module again.
+// Written by enumset_derive example_set_facts flags from Flag: change the source, and write this again.
 
 use enumset::{EnumSetType, EnumSetTypeWithRepr};
 
@@ -23,7 +23,7 @@ impl EnumSetType for Flag {
 
     ghost ALL_BITS = { 167 };
 
-    const ALL_BITS: u8 = 167;
+    const ALL_BITS: u8 = 0xA7;
 
     ghost BIT_WIDTH = { 8 };
 

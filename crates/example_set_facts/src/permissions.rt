@@ -1,4 +1,4 @@
-// Written by enumset_derive from the enum's source: change the source, and write this module again.
+// Written by enumset_derive example_set_facts permissions from Permission: change the source, and write this again.
 
 use enumset::{EnumSet, EnumSetType, EnumSetTypeWithRepr};
 
@@ -22,7 +22,7 @@ impl EnumSetType for Permission {
 
     ghost ALL_BITS = { 31 };
 
-    const ALL_BITS: u8 = 31;
+    const ALL_BITS: u8 = 0x1F;
 
     ghost BIT_WIDTH = { 5 };
 

@@ -1,4 +1,4 @@
-// Written by enumset_derive from the enum's source: change the source, and write this module again.
+// Written by enumset_derive example_set_facts plant from Alarm: change the source, and write this again.
 
 use enumset::internal::ArrayRepr;
 use enumset::{EnumSetType, EnumSetTypeWithRepr};
@@ -89,7 +89,7 @@ impl EnumSetType for Alarm {
 
     ghost ALL_BITS = { 18446744073709551615 ∷ 63 ∷ [] };
 
-    const ALL_BITS: ArrayRepr<2> = ArrayRepr([18446744073709551615, 63]);
+    const ALL_BITS: ArrayRepr<2> = ArrayRepr([0xFFFFFFFFFFFFFFFF, 0x3F]);
 
     ghost BIT_WIDTH = { 70 };
 

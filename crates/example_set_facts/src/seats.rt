@@ -1,4 +1,4 @@
-// Written by enumset_derive from the enum's source: change the source, and write this module again.
+// Written by enumset_derive example_set_facts seats from Seat: change the source, and write this again.
 
 use enumset::{EnumSetType, EnumSetTypeWithRepr};
 
@@ -29,7 +29,7 @@ impl EnumSetType for Seat {
 
     ghost ALL_BITS = { 4095 };
 
-    const ALL_BITS: u16 = 4095;
+    const ALL_BITS: u16 = 0xFFF;
 
     ghost BIT_WIDTH = { 12 };
 

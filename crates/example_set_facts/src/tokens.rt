@@ -1,4 +1,4 @@
-// Written by enumset_derive from the enum's source: change the source, and write this module again.
+// Written by enumset_derive example_set_facts tokens from Token: change the source, and write this again.
 
 use enumset::{EnumSetType, EnumSetTypeWithRepr};
 
@@ -67,7 +67,7 @@ impl EnumSetType for Token {
 
     ghost ALL_BITS = { 281474976710655 };
 
-    const ALL_BITS: u64 = 281474976710655;
+    const ALL_BITS: u64 = 0xFFFFFFFFFFFF;
 
     ghost BIT_WIDTH = { 48 };
 

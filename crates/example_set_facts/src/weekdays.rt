@@ -1,4 +1,4 @@
-// Written by enumset_derive from the enum's source: change the source, and write this module again.
+// Written by enumset_derive example_set_facts weekdays from Weekday: change the source, and write this again.
 
 use enumset::{EnumSet, EnumSetType, EnumSetTypeWithRepr};
 
@@ -24,7 +24,7 @@ impl EnumSetType for Weekday {
 
     ghost ALL_BITS = { 127 };
 
-    const ALL_BITS: u8 = 127;
+    const ALL_BITS: u8 = 0x7F;
 
     ghost BIT_WIDTH = { 7 };
 

@@ -1,4 +1,4 @@
-// Written by enumset_derive from the enum's source: change the source, and write this module again.
+// Written by enumset_derive example_wrong_bodies permissions from Permission: change the source, and write this again.
 
 use enumset::{EnumSetType, EnumSetTypeWithRepr};
 
@@ -20,7 +20,7 @@ impl EnumSetType for Permission {
 
     ghost ALL_BITS = { 7 };
 
-    const ALL_BITS: u8 = 7;
+    const ALL_BITS: u8 = 0x7;
 
     ghost BIT_WIDTH = { 3 };
 

@@ -1,8 +1,8 @@
 pub use enumset::EnumSet;
-use enumset::EnumSetType as ElementType;
+use enumset::EnumSetType;
 
 /// Bits of a file's mode.
-#[derive(ElementType, Debug)]
+#[derive(EnumSetType, Debug)]
 #[enumset(map = "msb", repr = "u16", serialize_repr = "u16", serialize_deny_unknown, no_ops)]
 pub enum Mode {
     Read = 8,

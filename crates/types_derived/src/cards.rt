@@ -1,4 +1,4 @@
-// Written by enumset_derive from the enum's source: change the source, and write this module again.
+// Written by enumset_derive types_derived cards from Suit: change the source, and write this again.
 
 use enumset::{EnumSetType, EnumSetTypeWithRepr};
 
@@ -21,7 +21,7 @@ impl EnumSetType for Suit {
 
     ghost ALL_BITS = { 15 };
 
-    const ALL_BITS: u8 = 15;
+    const ALL_BITS: u8 = 0xF;
 
     ghost BIT_WIDTH = { 4 };
 

@@ -1,4 +1,4 @@
-// Written by enumset_derive from the enum's source: change the source, and write this module again.
+// Written by enumset_derive types_derived days from Day: change the source, and write this again.
 
 use enumset::{EnumSetType, EnumSetTypeWithRepr};
 
@@ -22,7 +22,7 @@ impl EnumSetType for Day {
 
     ghost ALL_BITS = { 14 };
 
-    const ALL_BITS: u8 = 14;
+    const ALL_BITS: u8 = 0xE;
 
     ghost BIT_WIDTH = { 4 };
 

@@ -1,4 +1,4 @@
-// Written by enumset_derive from the enum's source: change the source, and write this module again.
+// Written by enumset_derive types_derived modes from Mode: change the source, and write this again.
 
 use enumset::{EnumSet, EnumSetType, EnumSetTypeWithRepr, set_json};
 
@@ -21,7 +21,7 @@ impl EnumSetType for Mode {
 
     ghost ALL_BITS = { 224 };
 
-    const ALL_BITS: u16 = 224;
+    const ALL_BITS: u16 = 0xE0;
 
     ghost BIT_WIDTH = { 8 };
 

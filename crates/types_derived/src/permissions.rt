@@ -1,4 +1,4 @@
-// Written by enumset_derive from the enum's source: change the source, and write this module again.
+// Written by enumset_derive types_derived permissions from Permission: change the source, and write this again.
 
 //! What an account may do with a document.
 
@@ -28,7 +28,7 @@ impl EnumSetType for Permission {
 
     ghost ALL_BITS = { 15 };
 
-    const ALL_BITS: u16 = 15;
+    const ALL_BITS: u16 = 0xF;
 
     ghost BIT_WIDTH = { 4 };
 

@@ -1,4 +1,4 @@
-// Written by enumset_derive from the enum's source: change the source, and write this module again.
+// Written by enumset_derive types_derived tokens from TokenKind: change the source, and write this again.
 
 use enumset::{EnumSetType, EnumSetTypeWithRepr};
 
@@ -28,7 +28,7 @@ impl EnumSetType for TokenKind {
 
     ghost ALL_BITS = { 511 };
 
-    const ALL_BITS: u16 = 511;
+    const ALL_BITS: u16 = 0x1FF;
 
     ghost BIT_WIDTH = { 9 };
 

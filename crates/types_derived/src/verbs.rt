@@ -1,4 +1,4 @@
-// Written by enumset_derive from the enum's source: change the source, and write this module again.
+// Written by enumset_derive types_derived verbs from Verb: change the source, and write this again.
 
 use enumset::{EnumSetType, EnumSetTypeWithRepr};
 
@@ -19,7 +19,7 @@ impl EnumSetType for Verb {
 
     ghost ALL_BITS = { 3 };
 
-    const ALL_BITS: u8 = 3;
+    const ALL_BITS: u8 = 0x3;
 
     ghost BIT_WIDTH = { 2 };
 

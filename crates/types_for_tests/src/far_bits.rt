@@ -1,4 +1,4 @@
-// Written by enumset_derive from the enum's source: change the source, and write this module again.
+// Written by enumset_derive types_for_tests far_bits from In17Words: change the source, and write this again.
 
 //! An enum of two variants, one in the first word and one in the last of more words than the other types have.
 
@@ -25,23 +25,23 @@ impl EnumSetType for In17Words {
         0 ∷ 0 ∷ 0 ∷ 9223372036854775808 ∷ [] };
 
     const ALL_BITS: ArrayRepr<17> = ArrayRepr([
-        8,
-        0,
-        0,
-        0,
-        0,
-        0,
-        0,
-        0,
-        0,
-        0,
-        0,
-        0,
-        0,
-        0,
-        0,
-        0,
-        9223372036854775808,
+        0x8,
+        0x0,
+        0x0,
+        0x0,
+        0x0,
+        0x0,
+        0x0,
+        0x0,
+        0x0,
+        0x0,
+        0x0,
+        0x0,
+        0x0,
+        0x0,
+        0x0,
+        0x0,
+        0x8000000000000000,
     ]);
 
     ghost BIT_WIDTH = { 1088 };

@@ -1,4 +1,4 @@
-// Written by enumset_derive from the enum's source: change the source, and write this module again.
+// Written by enumset_derive types_for_tests forms from Numbered, InWords, In32Bits: change the source, and write this again.
 
 //! Enums whose sets are numbers, and words, in JSON.
 
@@ -23,7 +23,7 @@ impl EnumSetType for Numbered {
 
     ghost ALL_BITS = { 7 };
 
-    const ALL_BITS: u8 = 7;
+    const ALL_BITS: u8 = 0x7;
 
     ghost BIT_WIDTH = { 3 };
 
@@ -109,7 +109,7 @@ impl EnumSetType for InWords {
 
     ghost ALL_BITS = { 2 ∷ 0 ∷ 0 ∷ 256 ∷ [] };
 
-    const ALL_BITS: ArrayRepr<4> = ArrayRepr([2, 0, 0, 256]);
+    const ALL_BITS: ArrayRepr<4> = ArrayRepr([0x2, 0x0, 0x0, 0x100]);
 
     ghost BIT_WIDTH = { 201 };
 
@@ -186,7 +186,7 @@ impl EnumSetType for In32Bits {
 
     ghost ALL_BITS = { 2147483649 };
 
-    const ALL_BITS: u32 = 2147483649;
+    const ALL_BITS: u32 = 0x80000001;
 
     ghost BIT_WIDTH = { 32 };
 

@@ -1,4 +1,4 @@
-// Written by enumset_derive from the enum's source: change the source, and write this module again.
+// Written by enumset_derive types_for_tests named from NamedLetters, LaterLetters, NamedSparse: change the source, and write this again.
 
 //! Element types whose values have names, and whose sets are lists of them, or maps from them.
 
@@ -27,7 +27,7 @@ impl EnumSetType for NamedLetters {
 
     ghost ALL_BITS = { 127 };
 
-    const ALL_BITS: u8 = 127;
+    const ALL_BITS: u8 = 0x7F;
 
     ghost BIT_WIDTH = { 7 };
 
@@ -137,7 +137,7 @@ impl EnumSetType for LaterLetters {
 
     ghost ALL_BITS = { 255 ∷ 1 ∷ [] };
 
-    const ALL_BITS: ArrayRepr<2> = ArrayRepr([255, 1]);
+    const ALL_BITS: ArrayRepr<2> = ArrayRepr([0xFF, 0x1]);
 
     ghost BIT_WIDTH = { 65 };
 
@@ -244,7 +244,7 @@ impl EnumSetType for NamedSparse {
 
     ghost ALL_BITS = { 170141183460469231731687303716958897152 };
 
-    const ALL_BITS: u128 = 170141183460469231731687303716958897152;
+    const ALL_BITS: u128 = 0x80000000000000000000000040100400;
 
     ghost BIT_WIDTH = { 128 };
 

@@ -1,4 +1,4 @@
-// Written by enumset_derive from the enum's source: change the source, and write this module again.
+// Written by enumset_derive types_for_tests of_256 from Of256: change the source, and write this again.
 
 //! An enum of 256 variants over four words.
 
@@ -279,10 +279,10 @@ impl EnumSetType for Of256 {
         18446744073709551615 ∷ [] };
 
     const ALL_BITS: ArrayRepr<4> = ArrayRepr([
-        18446744073709551615,
-        18446744073709551615,
-        18446744073709551615,
-        18446744073709551615,
+        0xFFFFFFFFFFFFFFFF,
+        0xFFFFFFFFFFFFFFFF,
+        0xFFFFFFFFFFFFFFFF,
+        0xFFFFFFFFFFFFFFFF,
     ]);
 
     ghost BIT_WIDTH = { 256 };

@@ -1,4 +1,4 @@
-// Written by enumset_derive from the enum's source: change the source, and write this module again.
+// Written by enumset_derive types_for_tests of_64 from Of64: change the source, and write this again.
 
 //! An enum of 64 variants over a `u64`.
 
@@ -83,7 +83,7 @@ impl EnumSetType for Of64 {
 
     ghost ALL_BITS = { 18446744073709551615 };
 
-    const ALL_BITS: u64 = 18446744073709551615;
+    const ALL_BITS: u64 = 0xFFFFFFFFFFFFFFFF;
 
     ghost BIT_WIDTH = { 64 };
 

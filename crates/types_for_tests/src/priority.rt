@@ -1,4 +1,4 @@
-// Written by enumset_derive from the enum's source: change the source, and write this module again.
+// Written by enumset_derive types_for_tests priority from Priority: change the source, and write this again.
 
 //! An enum whose bits count from the highest.
 
@@ -23,7 +23,7 @@ impl EnumSetType for Priority {
 
     ghost ALL_BITS = { 57344 };
 
-    const ALL_BITS: u16 = 57344;
+    const ALL_BITS: u16 = 0xE000;
 
     ghost BIT_WIDTH = { 16 };
 

@@ -1,4 +1,4 @@
-// Written by enumset_derive from the enum's source: change the source, and write this module again.
+// Written by enumset_derive types_for_tests wide from NamedWide: change the source, and write this again.
 
 //! An element type whose values get their names by hand, in the module `wide_names`.
 
@@ -24,7 +24,7 @@ impl EnumSetType for NamedWide {
 
     ghost ALL_BITS = { 8 ∷ 1 ∷ 4 ∷ [] };
 
-    const ALL_BITS: ArrayRepr<3> = ArrayRepr([8, 1, 4]);
+    const ALL_BITS: ArrayRepr<3> = ArrayRepr([0x8, 0x1, 0x4]);
 
     ghost BIT_WIDTH = { 131 };
 

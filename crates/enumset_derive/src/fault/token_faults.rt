@@ -1,7 +1,7 @@
 //! Faults at tokens.
 
 use super::{Fault, Found, Reason};
-use enumset_tokens::{Kind, Token};
+use enumset_source::{Kind, Token};
 
 /// The faults at a token.
 pub trait TokenFaults {

@@ -1,60 +1,64 @@
 //! The input of the derive: the variants of an enum with their discriminants, and its options.
 
-use enumset_tokens::{Map, Number, Place, Representation, Serialized, Token};
+ghost use Rattle.std.specs.Prelude.{◌≡◌};
+ghost use Rattle.enumset_derive.specs.Variants.{number_place};
+
+use enumset_source::{Map, Number, Place, Representation, Serialized, Token};
 
 /// An enum that is to become an element type, as it was read.
 #[derive(Drop)]
 pub struct EnumDeclaration<'a, 'b> {
-    /// The comments and the attributes before its first derive, except the derives and the options.
-    pub attributes: Vec<Line<'a, 'b>>,
-    /// The comments and the attributes after its first derive, except the derives and the options.
-    pub later_attributes: Vec<Line<'a, 'b>>,
+    pub head: EnumHead<'a, 'b>,
     /// The other derives besides `EnumSetType`, in their order.
     pub derives: Vec<Derive<'a>>,
-    /// Whether the enum exists only for tests.
-    pub is_for_tests: bool,
-    /// Its tokens, such as `pub(crate)`, or nothing.
-    pub visibility: &'b [Token<'a>],
-    pub name: Token<'a>,
+    pub options: Options<'a>,
     /// In the order of the declaration.
     pub variants: Vec<Variant<'a, 'b>>,
     /// The comments after the last variant.
     pub last_comments: Vec<Line<'a, 'b>>,
-    pub options: Options<'a>,
     /// The names of the variants in JSON, in their order. Empty if each is the variant's own name.
     pub json_names: Vec<String>,
 }
 
 impl EnumDeclaration<'_, '_> {
-    /// Whether the enum has a derive with this name.
-    pub fn derives(&self, name: &str) -> bool {
-        self.derives.iter().any(|derive| derive.last() == name)
+    /// Its derive with this name, if it has one.
+    pub fn derive(&self, name: &str) -> Option<Derive<'_>> {
+        self.derives
+            .iter()
+            .copied()
+            .find(|derive| derive.name == name)
     }
 }
 
-/// A derive of an enum.
+/// What is before the variants of an enum.
 #[derive(Drop)]
-pub struct Derive<'a> {
-    pub path: String,
-    /// The crate and the name that the module must import for it.
-    pub import: Option<(&'a str, &'a str)>,
-}
-
-impl Derive<'_> {
-    /// The last name of the path.
-    pub fn last(&self) -> &str {
-        let path = self.path.as_str();
-        path.rsplit("::").next().unwrap_or(path)
-    }
+pub struct EnumHead<'a, 'b> {
+    /// The comments and the attributes before its first derive, except the derives and the options.
+    pub lines: Vec<Line<'a, 'b>>,
+    /// The comments and the attributes after its first derive, except the derives and the options.
+    pub later_lines: Vec<Line<'a, 'b>>,
+    /// Whether the enum exists only for tests.
+    pub is_for_tests: bool,
+    /// Its tokens, such as `pub(crate)`, or nothing.
+    pub visibility: &'b [Token<'a>],
+    pub name: Token<'a>,
 }
 
 /// A comment or an attribute that is kept and is written on its own line.
+pub type Line<'a, 'b> = &'b [Token<'a>];
+
+/// A derive of an enum.
 #[derive(Clone, Copy)]
-pub struct Line<'a, 'b> {
-    /// Whether an empty line is before it.
-    pub is_apart: bool,
-    pub tokens: &'b [Token<'a>],
+pub struct Derive<'a> {
+    /// The last name of its path.
+    pub name: &'a str,
+    /// As it is written into the module.
+    pub path: &'static str,
+    pub place: Place,
 }
+
+/// A name in JSON, and its place.
+pub type Rename<'a> = (&'a str, Place);
 
 /// A variant without fields.
 #[derive(Drop)]
@@ -62,24 +66,45 @@ pub struct Variant<'a, 'b> {
     /// Where the name is.
     pub place: Place,
     /// The comments and the attributes before it.
-    pub attributes: Vec<Line<'a, 'b>>,
-    /// Whether an empty line is before its name.
+    pub lines: Vec<Line<'a, 'b>>,
+    /// Whether an empty line is before it.
     pub is_apart: bool,
     pub name: &'a str,
-    /// The explicit discriminant.
-    pub discriminant: Option<Discriminant<'a>>,
+    /// The name in JSON that it is given.
+    pub rename: Option<Rename<'a>>,
+    pub discriminant: Discriminant<'a>,
     /// The comments between its tokens, and those after it on its line.
     pub comments: Vec<&'a str>,
 }
 
-/// An explicit discriminant.
+impl Variant<'_, '_> {
+    /// Where its discriminant is, or its name if the discriminant is implied.
+    pub fn number_place(&self) -> Place
+        ensures { result ≡ number_place self.now }
+    {
+        match self.discriminant {
+            Discriminant::Given(given) => given.place,
+            Discriminant::Implied | Discriminant::Unread => self.place,
+        }
+    }
+}
+
+/// The discriminant of a variant.
 #[derive(Clone, Copy)]
-pub struct Discriminant<'a> {
+pub enum Discriminant<'a> {
+    /// One more than that of the variant before, or 0.
+    Implied,
+    Given(Given<'a>),
+    /// It could not be read, as a fault says.
+    Unread,
+}
+
+/// A discriminant that is given.
+#[derive(Clone, Copy)]
+pub struct Given<'a> {
     /// Where it begins.
     pub place: Place,
-    /// Whether a minus sign is before the literal.
-    pub has_minus: bool,
-    /// The literal in the source, such as `0x1F`, without a type suffix. `None` for `1 << n` and for a byte.
+    /// The literal in the source, such as `0x1F`, without a minus sign and a type. `None` for `1 << n` and for a byte.
     pub literal: Option<&'a str>,
     pub number: Number,
 }

@@ -1,8 +1,11 @@
-//! Tells which attributes of an enum and its variants have a meaning in Rattle.
+//! Tells which comments and attributes of an enum and its variants are kept.
 
-use crate::fault::{Fault, TokenFaults};
+use crate::fault::{Fault, Outcome, TokenFaults};
 use crate::items::Attribute;
-use enumset_tokens::Kind;
+use crate::plan::{Derive, Line};
+use crate::report::{Note, Report};
+use enumset_source::{Kind, Token};
+use std::alloc::{AllocError, Global};
 
 const CONFIGURATION: &str =
     "the only `cfg` that an enum may have is `cfg(test)`: remove the attribute or the enum";
@@ -11,24 +14,96 @@ const ON_VARIANT: &str = "a variant must not have a `cfg`: remove the attribute 
 
 const OPTIONS_ALONE: &str = "`cfg_attr` is not supported: write `#[enumset(..)]` without it";
 
-/// Whether to keep a comment, or an attribute other than derives, options and attributes of derives. Comments are kept.
-pub(super) fn has_meaning(attribute: &Attribute, is_variant: bool) -> Result<bool, Fault> {
+const SERDE_ALONE: &str = "`cfg_attr` is not supported: write `#[serde(..)]` without it";
+
+/// What it depends on whether an attribute is kept.
+#[derive(Clone, Copy)]
+pub(super) struct Setting<'s, 'a> {
+    /// The derives of the enum.
+    pub derives: &'s [Derive<'a>],
+    /// Whether sets in JSON consist of names.
+    pub are_named: bool,
+    /// Whether the attribute is a variant's.
+    pub is_variant: bool,
+}
+
+/// What becomes of an attribute or of a comment next to it.
+enum Fate {
+    Kept,
+    LeftOut,
+    /// It is read: a derive, options, or names in JSON.
+    Read,
+}
+
+/// The comments and attributes that are kept. Others are noted, unless they are read.
+pub(super) fn kept_lines<'a, 'b>(
+    alloc: Global,
+    report: &mut Report<'a, 'b>,
+    attributes: &[Attribute<'a, 'b>],
+    setting: Setting<'_, 'a>,
+) -> Outcome<Vec<Line<'a, 'b>>> {
+    let mut lines = Vec::new(alloc);
+    for attribute in attributes {
+        match fate_of(attribute, setting) {
+            Ok(Fate::Kept) => lines.push(attribute.tokens)?,
+            Ok(Fate::LeftOut) => note_left_out(report, attribute)?,
+            Ok(Fate::Read) => lines.append(&mut comments_in(alloc, attribute.tokens)?)?,
+            Err(fault) => report.fault(fault)?,
+        }
+    }
+    Ok(lines)
+}
+
+/// The comments among the tokens, each as its own line.
+pub(super) fn comments_in<'a, 'b>(
+    alloc: Global,
+    tokens: &'b [Token<'a>],
+) -> Result<Vec<Line<'a, 'b>>, AllocError> {
+    let is_comment = |tokens: &Line| tokens.first().is_some_and(|first| first.is_comment());
+    tokens.chunks(1).filter(is_comment).collect(alloc)
+}
+
+/// Notes that an attribute is left out.
+fn note_left_out<'a, 'b>(report: &mut Report<'a, 'b>, attribute: &Attribute<'a, 'b>) -> Outcome {
+    match attribute.tokens.first() {
+        Some(first) => report.note(Note::Attribute(first.place, attribute.tokens)),
+        None => Ok(()),
+    }
+}
+
+/// What becomes of an attribute or of a comment next to it.
+fn fate_of(attribute: &Attribute, setting: Setting) -> Result<Fate, Fault> {
     let [name, ..] = attribute.words() else {
-        return Ok(true);
+        return Ok(Fate::Kept);
     };
-    Ok(match name.text {
-        "doc" => match attribute.words() {
-            [_, equal, text, _] if equal.is("=") => matches!(text.kind, Kind::Literal),
-            _ => attribute.is_written(&["(", "hidden", ")", "]"]),
-        },
-        "cfg" if is_variant => return Err(name.fault(ON_VARIANT)),
+    let derives = |derive: &str| setting.derives.iter().any(|own| own.name == derive);
+    let is_kept = match name.text {
+        "derive" | "enumset" if !setting.is_variant => return Ok(Fate::Read),
+        "serde" if derives("Serialize") || derives("Deserialize") => true,
+        "serde" if setting.are_named => return Ok(Fate::Read),
+        "default" => setting.is_variant && derives("Default"),
+        "error" => derives("Error"),
+        "doc" => is_doc(attribute),
+        "cfg" if setting.is_variant => return Err(name.fault(ON_VARIANT)),
         "cfg" if !attribute.is_written(&["(", "test", ")", "]"]) => {
             return Err(name.fault(CONFIGURATION));
         }
         "cfg_attr" if attribute.calls("enumset") => return Err(name.fault(OPTIONS_ALONE)),
+        "cfg_attr" if setting.are_named && attribute.calls("serde") => {
+            return Err(name.fault(SERDE_ALONE));
+        }
         "cfg" | "deprecated" | "non_exhaustive" => true,
         "allow" | "warn" | "deny" | "forbid" | "expect" | "clippy" | "tactic" => true,
-        "must_use" | "rattlefmt" | "cycle" | "derive_where" => !is_variant,
+        "must_use" | "rattlefmt" | "cycle" | "derive_where" => !setting.is_variant,
         _ => false,
-    })
+    };
+    Ok(if is_kept { Fate::Kept } else { Fate::LeftOut })
+}
+
+/// Whether an attribute `doc` has a text, or is `doc(hidden)`.
+fn is_doc(attribute: &Attribute) -> bool {
+    match attribute.words() {
+        [_, equal, text, _] if equal.is("=") => matches!(text.kind, Kind::Literal),
+        _ => attribute.is_written(&["(", "hidden", ")", "]"]),
+    }
 }

@@ -1,137 +1,155 @@
 //! Reads the derives of an enum.
 
-use super::imports::Imports;
-use crate::fault::{Fault, Outcome, TokenFaults};
+use crate::fault::{Outcome, Reason, TokenFaults};
 use crate::items::Attribute;
 use crate::plan::Derive;
-use enumset_tokens::Token;
+use crate::report::{Note, Report};
+use enumset_source::Token;
 use std::alloc::Global;
 
 const DERIVE_ALONE: &str = "`cfg_attr` is not supported: write `#[derive(EnumSetType)]` without it";
 
-/// The derives of std, `serde` and `thiserror`.
-const KNOWN: [&str; 13] = [
-    "Clone",
-    "Copy",
-    "PartialEq",
-    "Eq",
-    "PartialOrd",
-    "Ord",
-    "Default",
-    "Hash",
-    "Debug",
-    "Drop",
-    "Serialize",
-    "Deserialize",
-    "Error",
+const OWN: &str = "EnumSetType";
+
+/// The derives that are kept, each by the last name of its path, and as it is written.
+const KNOWN: [(&str, &str); 14] = [
+    (OWN, OWN),
+    ("Clone", "Clone"),
+    ("Copy", "Copy"),
+    ("PartialEq", "PartialEq"),
+    ("Eq", "Eq"),
+    ("PartialOrd", "PartialOrd"),
+    ("Ord", "Ord"),
+    ("Default", "Default"),
+    ("Hash", "Hash"),
+    ("Debug", "Debug"),
+    ("Drop", "Drop"),
+    ("Serialize", "serde::Serialize"),
+    ("Deserialize", "serde::Deserialize"),
+    ("Error", "thiserror::Error"),
 ];
 
-/// The modules of std with these derives.
-const MODULES: [&str; 6] = ["fmt", "cmp", "hash", "clone", "marker", "default"];
+/// The names that the path of such a derive may begin with.
+const ROOTS: [&str; 11] = [
+    "std",
+    "core",
+    "fmt",
+    "cmp",
+    "hash",
+    "clone",
+    "marker",
+    "default",
+    "serde",
+    "thiserror",
+    "enumset",
+];
 
-/// Whether the attributes derive `EnumSetType`. It is a fault if one does so under a condition.
-pub(super) fn has_element_type(attributes: &[Attribute], imports: &Imports) -> Result<bool, Fault> {
-    let mut has_any = false;
+/// Whether an attribute has this name, and names `EnumSetType`.
+pub(super) fn names_element_type(attribute: &Attribute, name: &str) -> bool {
+    attribute.is(name) && attribute.words().iter().any(|word| word.is(OWN))
+}
+
+/// Reports that an attribute derives `EnumSetType` under a condition.
+pub(super) fn test_conditions(report: &mut Report, attributes: &[Attribute]) -> Outcome {
     for attribute in attributes {
-        let is_named = attribute
-            .words()
-            .iter()
-            .any(|word| imports.is_element_type(&*word));
         match attribute.words() {
-            [name, ..] if is_named && name.is("cfg_attr") => return Err(name.fault(DERIVE_ALONE)),
-            [name, ..] => has_any |= is_named && name.is("derive"),
-            [] => {}
-        }
-    }
-    Ok(has_any)
-}
-
-/// A path in a derive.
-#[derive(Drop)]
-pub(super) struct Path<'a> {
-    pub first: Token<'a>,
-    pub last: Token<'a>,
-    /// Its names, with `::` between them.
-    pub text: String,
-}
-
-impl<'a> Path<'a> {
-    /// Reads a path from an argument of a derive, which has the punctuation after it.
-    pub fn of(alloc: Global, argument: &[Token<'a>]) -> Outcome<Option<Path<'a>>> {
-        let words = match argument {
-            [root, words @ ..] if root.is("::") => words,
-            words => words,
-        };
-        let [first, ..] = words else {
-            return Ok(None);
-        };
-        let mut path = Path {
-            first: *first,
-            last: *first,
-            text: String::new(alloc),
-        };
-        for (index, word) in words.iter().enumerate() {
-            match index % 2 {
-                0 => {
-                    word.expect(word.is_ident(), "a path or `)`")?;
-                    path.last = *word;
-                }
-                _ if word.is_punct(",)]}") => break,
-                _ => word.expect(word.is("::"), "`,` or `)`")?,
+            [name, ..] if names_element_type(attribute, "cfg_attr") => {
+                report.fault(name.fault(DERIVE_ALONE))?;
             }
-            path.text.push_str(word.text)?;
+            _ => {}
         }
-        Ok(Some(path))
     }
-
-    /// The derive, if std, `serde`, `thiserror` or the user's own crate has it.
-    pub fn known(&self, alloc: Global, imports: &Imports<'a>) -> Outcome<Option<Derive<'a>>> {
-        let import = imports.get(self.first.text);
-        let Some((_, rest)) = self.text.as_str().split_once("::") else {
-            let name = imports.original(self.last.text);
-            let root = import.map_or("", |import| import.root);
-            let Some(provider) = provider_of(name).filter(|provider| has_root(provider, root))
-            else {
-                return Ok(None);
-            };
-            let import = (provider != "std").then_some((provider, name));
-            let path = String::from_str(alloc, name)?;
-            return Ok(Some(Derive { path, import }));
-        };
-        let is_crate = import.is_some_and(|import| import.root == import.name);
-        let root = match imports.original(self.first.text) {
-            "core" => "std",
-            root if is_crate => root,
-            _ => self.first.text,
-        };
-        let is_own = matches!(root, "crate" | "self" | "super");
-        let is_module = MODULES.contains(&root);
-        let is_root = is_module || matches!(root, "std" | "serde" | "thiserror");
-        if !is_own && !(is_root && KNOWN.contains(&self.last.text)) {
-            return Ok(None);
-        }
-        let path = format!(in alloc; "{root}::{rest}")?;
-        let import = is_module.then_some(("std", root));
-        Ok(Some(Derive { path, import }))
-    }
+    Ok(())
 }
 
-/// The crate that has the derive with this name.
-fn provider_of(name: &str) -> Option<&'static str> {
-    match name {
-        "Serialize" | "Deserialize" => Some("serde"),
-        "Error" => Some("thiserror"),
-        name if KNOWN.contains(&name) => Some("std"),
-        _ => None,
+/// The derives besides `EnumSetType`. Those that are not known are left out.
+pub(super) fn read_derives<'a>(
+    alloc: Global,
+    report: &mut Report<'a, '_>,
+    attributes: &[Attribute<'a, '_>],
+) -> Outcome<Vec<Derive<'a>>> {
+    let mut derives: Vec<Derive> = Vec::new(alloc);
+    for attribute in attributes {
+        if attribute.is("derive") {
+            match attribute.arguments(alloc) {
+                Ok(arguments) => read_arguments(alloc, report, &mut derives, &arguments)?,
+                Err(error) => report.take(error)?,
+            }
+        }
     }
+    derives.retain(|derive| derive.name != OWN);
+    Ok(derives)
 }
 
-/// Whether a path of a derive of this crate may begin with this name. It is empty for a derive that is not imported.
-fn has_root(provider: &str, root: &str) -> bool {
-    match root {
-        "" => true,
-        "core" | "alloc" => provider == "std",
-        "serde_derive" => provider == "serde",
-        root => root == provider,
+/// Adds the derives that an attribute has as its arguments.
+fn read_arguments<'a>(
+    alloc: Global,
+    report: &mut Report<'a, '_>,
+    derives: &mut Vec<Derive<'a>>,
+    arguments: &[&[Token<'a>]],
+) -> Outcome {
+    for argument in arguments {
+        match read_derive(alloc, report, derives, argument) {
+            Ok(derive) => derives.extend(derive)?,
+            Err(error) => report.take(error)?,
+        }
     }
+    Ok(())
+}
+
+/// Reads one path of a derive, which has the punctuation after it. `given` are the derives before it.
+fn read_derive<'a>(
+    alloc: Global,
+    report: &mut Report<'a, '_>,
+    given: &[Derive],
+    argument: &[Token<'a>],
+) -> Outcome<Option<Derive<'a>>> {
+    let names = match argument {
+        [root, names @ ..] if root.is("::") => names,
+        names => names,
+    };
+    let [first, ..] = names else {
+        return Ok(None);
+    };
+    let (mut last, mut is_path) = (first, false);
+    for (index, word) in names.iter().enumerate() {
+        match index % 2 {
+            0 => {
+                word.expect(word.is_ident(), "a path or `)`")?;
+                last = word;
+            }
+            _ if word.is_punct(",)]}") => break,
+            _ => {
+                word.expect(word.is("::"), "`,` or `)`")?;
+                is_path = true;
+            }
+        }
+    }
+    let is_rooted = !is_path || last.is(OWN) || ROOTS.contains(&first.text);
+    let known = KNOWN.iter().find(|known| is_rooted && known.0 == last.text);
+    let Some((_, path)) = known else {
+        report.note(Note::Derive(first.place, path_of(alloc, names)?))?;
+        return Ok(None);
+    };
+    if let Some(first) = given.iter().find(|derive| derive.name == last.text) {
+        return Err(
+            Reason::GivenTwice("derive", first.place)
+                .at(last.place)
+                .into(),
+        );
+    }
+    Ok(Some(Derive {
+        name: last.text,
+        path,
+        place: last.place,
+    }))
+}
+
+/// The path at the beginning of these tokens.
+fn path_of(alloc: Global, names: &[Token]) -> Outcome<String> {
+    let mut path = String::new(alloc);
+    for name in names.iter().take_while(|name| !name.is_punct(",)]}")) {
+        path.push_str(name.text)?;
+    }
+    Ok(path)
 }

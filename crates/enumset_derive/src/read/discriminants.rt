@@ -1,86 +1,75 @@
 //! Reads discriminants.
 
-ghost use Rattle.std.specs.Prelude.{◌≡◌, ◌<◌, ◌^◌, pos, neg_ℤ, Some, None, IfOk, MatchResult};
-ghost use Rattle.enumset_tokens.specs.Literals.{value_of};
-ghost use Rattle.enumset_tokens.specs.Numbers.{negated_number};
-ghost use Rattle.enumset_tokens.specs.declared.number.Number.TheVariants.{Small};
+ghost use Rattle.std.specs.Prelude.{◌≡◌, ◌∷◌, [], true, IfOk};
+ghost use Rattle.enumset_source.specs.Literals.{before_type, number_written};
+ghost use Rattle.enumset_source.specs.Numbers.{signed_number};
+ghost use Rattle.enumset_source.specs.declared.tokens.Token.{Token};
 
 use crate::fault::{Fault, TokenFaults};
-use crate::plan::Discriminant;
-use enumset_tokens::{NOT_A_NUMBER, Number, Token, number_of, without_type};
+use crate::plan::Given;
+use enumset_source::{LiteralFault, Number, Token, read_literal};
 
-const NOT_A_MASK: &str = "a mask must be a literal or `1 << n`: write the number itself";
+const NOT_A_NUMBER: &str = "a discriminant must be an integer, such as 10: write the number itself";
+
+const NOT_A_MASK: &str = "a mask must be an integer or `1 << n`: write the number itself";
+
+const TOO_LARGE: &str = "a discriminant must be from -(2^128 - 1) to 2^128 - 1";
 
 /// Reads a discriminant from its tokens. `end` is the punctuation after them. A mask may also be `1 << n`.
 pub(super) fn read_discriminant<'a>(
     tokens: &[Token<'a>],
     end: &Token<'a>,
     has_masks: bool,
-) -> Result<Discriminant<'a>, Fault> {
+) -> Result<Given<'a>, Fault>
+    ensures sign { IfOk result (λ given. (minus literal : Token) → tokens.now ≡ minus ∷ literal ∷ []
+        → given.number ≡ signed_number true (number_written (before_type literal.text.now))) }
+{
     let begin = tokens.first().unwrap_or(end);
-    let (has_minus, literal, number) = match tokens {
-        [literal] if literal.is_number() => {
-            let written = without_type(literal.text);
-            (false, Some(written), number_of(written))
+    let other = if has_masks { NOT_A_MASK } else { NOT_A_NUMBER };
+    let read = match tokens {
+        [literal] if literal.is_number() => number_of(false, literal.text),
+        [minus, literal] if minus.is("-") && literal.is_number() => number_of(true, literal.text),
+        [byte] => byte_of(byte.text).ok_or(other),
+        [one, less, next, places] if has_masks && less.is("<") && next.is("<") => {
+            shifted(one.text, places.text).ok_or(other)
         }
-        [minus, literal] if minus.is("-") && literal.is_number() => {
-            let written = without_type(literal.text);
-            (true, Some(written), number_of(written).and_then(negative))
-        }
-        [byte] if !byte.is_ident() => (false, None, byte_of(byte.text)),
-        [one, less, other, places] if has_masks && less.is("<") && other.is("<") => {
-            (false, None, shifted(one.text, places.text))
-        }
-        _ if has_masks => (false, None, Err(NOT_A_MASK)),
-        _ => (false, None, Err(NOT_A_NUMBER)),
+        _ => Err(other),
     };
-    Ok(Discriminant {
+    let (literal, number) = read.map_err(|text| begin.fault(text))?;
+    Ok(Given {
         place: begin.place,
-        has_minus,
         literal,
-        number: number.map_err(|text| begin.fault(text))?,
+        number,
     })
 }
 
-/// The negative of a number.
-fn negative(number: Number) -> Result<Number, &'static str>
-    ensures value { IfOk result (λ negative. value_of negative ≡ neg_ℤ (value_of number)) }
-    ensures negated { MatchResult result (λ n. negated_number number ≡ Some n) (λ _. negated_number number ≡ None) }
+/// What is written of a discriminant if it is a literal, and its number.
+type Read<'a> = (Option<&'a str>, Number);
+
+/// A literal after a minus sign, or without one.
+fn number_of(has_minus: bool, literal: &str) -> Result<Read<'_>, &'static str>
+    ensures { IfOk result (λ read. read.1 ≡ signed_number has_minus (number_written (before_type literal.now))) }
 {
-    match number {
-        Number::Small(0) => Ok(Number::Small(0)),
-        Number::Small(number) => Ok(Number::Negative(number)),
-        _ => Err("a negative literal must be at least -(2^128 - 1)"),
+    match read_literal(literal) {
+        Ok((written, number)) => Ok((Some(written), Number::signed(has_minus, number))),
+        Err(LiteralFault::NotAnInteger) => Err(NOT_A_NUMBER),
+        Err(LiteralFault::TooLarge) => Err(TOO_LARGE),
     }
 }
 
-/// The number of a byte, such as `b'a'`.
-fn byte_of(text: &str) -> Result<Number, &'static str> {
+/// A byte, such as `b'a'`.
+fn byte_of(text: &str) -> Option<Read<'_>> {
     match text.as_bytes() {
-        [b'b', b'\'', byte, b'\''] => Ok(Number::Small(u128::from(*byte))),
-        _ => Err(NOT_A_NUMBER),
+        [b'b', b'\'', byte, b'\''] => Some((None, Number::Natural(u128::from(*byte)))),
+        _ => None,
     }
 }
 
-/// The number of `1 << n`.
-fn shifted(one: &str, places: &str) -> Result<Number, &'static str> {
-    let one = number_of(without_type(one))?;
-    match (one, number_of(without_type(places))?) {
-        (Number::Small(1), Number::Small(places)) => {
-            let places = u32::try_from(places);
-            Ok(power_of_two(places.map_err(|_| "a mask must be at most 1 << 4294967295")?))
-        }
-        _ => Err(NOT_A_NUMBER),
-    }
-}
-
-/// Two to a power.
-fn power_of_two(exponent: u32) -> Number
-    ensures value { value_of result ≡ pos (2 ^ exponent) }
-    ensures small { exponent < 128 → result ≡ Small (2 ^ exponent) }
-{
-    match exponent {
-        exponent if exponent < 128 => Number::Small(1 << exponent),
-        exponent => Number::PowerOfTwo(exponent),
-    }
+/// A mask `1 << n` of at most 128 bits.
+fn shifted<'a>(one: &'a str, places: &'a str) -> Option<Read<'a>> {
+    let ((_, 1), (_, places)) = (read_literal(one).ok()?, read_literal(places).ok()?) else {
+        return None;
+    };
+    let mask = 1u128.checked_shl(u32::try_from(places).ok()?)?;
+    Some((None, Number::Natural(mask)))
 }

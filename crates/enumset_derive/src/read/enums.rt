@@ -1,18 +1,16 @@
 //! Reads an enum that is to become an element type.
 
-use super::Reader;
-use super::derives::Path;
-use super::json_names::{Given, OWN_STYLE, json_names};
-use super::lines::{push_comments, read_lines};
-use super::options::read_option;
-use super::variants::{read_variants, test_name};
+use super::attributes::{Setting, comments_in, kept_lines};
+use super::derives::{read_derives, test_conditions};
+use super::json_names::{json_names, read_style};
+use super::options::read_options;
+use super::variants::{Body, read_body, test_name};
 use crate::fault::{Fault, Found, Outcome, Reason, TokenFaults};
 use crate::items::{Attribute, Item};
-use crate::plan::{EnumDeclaration, Options};
-use crate::report::Note;
-use enumset_tokens::{Place, Token};
+use crate::plan::{Derive, EnumDeclaration, EnumHead, Line, Options};
+use crate::report::{Note, Report};
+use enumset_source::{Place, Style, Token};
 use std::alloc::Global;
-use std::collections::BTreeMap;
 
 const NO_ENUM_NAME: &str =
     "contracts import the variants of an enum under the name `TheVariants`: choose another name";
@@ -24,122 +22,142 @@ const OWN_JSON: &str =
     "this set in JSON consists of the variants' names: remove this derive and use `rename` for \
     other names, or write the set as a number";
 
-const OTHER_LIBRARY: &str =
-    "sets in JSON need `enumset`: remove this `crate_name`, or `serialize_repr`";
-
-const DENY_ALONE: &str = "`serialize_deny_unknown` has no effect without `serialize_repr`";
+const OTHER_DISPLAY: &str =
+    "`display` writes an `impl Display`, and so does this derive: remove one of them";
 
 const OTHER_ITEMS: [&str; 10] = [
     "struct", "union", "fn", "const", "static", "trait", "type", "mod", "impl", "use",
 ];
 
-/// An enum, and the state while it is read.
+/// What the attributes of an enum say.
 #[derive(Drop)]
-pub(super) struct EnumState<'a, 'b> {
-    pub declaration: EnumDeclaration<'a, 'b>,
-    /// The place of each derive, by the last name of its path.
-    derived: BTreeMap<&'a str, Place>,
-    /// The names of its options.
-    options: Vec<Token<'a>>,
+struct Outside<'a, 'b> {
+    derives: Vec<Derive<'a>>,
+    options: Options<'a>,
     /// The style of names in JSON.
-    pub style: Option<Given<'a>>,
-    /// Whether an empty line is among the attributes that were left out just before the next token.
-    pub is_apart: bool,
-    /// The name in JSON that is given to the next variant.
-    pub json_name: Option<Given<'a>>,
-    /// The names in JSON that are given to the variants that were read.
-    pub json_names: Vec<Option<Given<'a>>>,
+    style: Option<Style>,
+    /// What is kept before the first derive, and after it.
+    lines: Vec<Line<'a, 'b>>,
+    later_lines: Vec<Line<'a, 'b>>,
 }
 
-/// Reads an enum from an item with these attributes, or returns `None` if its faults are reported.
+/// Reads an enum from an item with these attributes, or returns `None` if it has no name or no variants. Its faults are
+/// reported, and what can be read is returned.
 pub(super) fn read_enum<'a, 'b>(
-    reader: &mut Reader<'a, 'b>,
+    alloc: Global,
+    report: &mut Report<'a, 'b>,
     item: &Item<'a, 'b>,
     attributes: &[Attribute<'a, 'b>],
 ) -> Outcome<Option<EnumDeclaration<'a, 'b>>> {
-    let alloc = reader.alloc;
-    let fault_count = reader.report.faults.len();
-    let Some(first) = item.first() else {
-        return Ok(None);
+    let Outside {
+        derives,
+        options,
+        style,
+        lines,
+        mut later_lines,
+    } = read_outside(alloc, report, attributes)?;
+    let (name, before, body) = match read_head(item) {
+        Ok(head) => head,
+        Err(fault) => return report.fault(fault).map(|()| None),
     };
-    // If the head has a fault, the faults of the attributes are still reported.
-    let head = read_head(item);
-    let name = match head {
-        Ok((name, _, _)) => name,
-        Err(_) => first,
+    later_lines.append(&mut comments_in(alloc, before)?)?;
+    test_enum_name(report, name)?;
+    test_parameters(report, before)?;
+    let setting = Setting {
+        derives: &derives,
+        are_named: options.are_named(),
+        is_variant: true,
     };
-    let mut state = EnumState {
-        declaration: EnumDeclaration {
-            attributes: Vec::new(alloc),
-            later_attributes: Vec::new(alloc),
-            derives: Vec::new(alloc),
+    let Body {
+        variants,
+        last_comments,
+    } = read_body(alloc, report, body, &options, setting)?;
+    if variants.is_empty() {
+        report.note(Note::Text(name.place, NO_VARIANTS))?;
+    }
+    let json_names = json_names(alloc, report, style, &variants)?;
+    Ok(Some(EnumDeclaration {
+        head: EnumHead {
+            lines,
+            later_lines,
             is_for_tests: attributes.iter().any(|attribute| attribute.is("cfg")),
             visibility: item.visibility(),
             name: *name,
-            variants: Vec::new(alloc),
-            last_comments: Vec::new(alloc),
-            options: Options::default(),
-            json_names: Vec::new(alloc),
         },
-        derived: BTreeMap::new(alloc),
-        options: Vec::new(alloc),
-        style: None,
-        is_apart: false,
-        json_name: None,
-        json_names: Vec::new(alloc),
-    };
-    read_attributes(reader, &mut state, attributes)?;
-    let (_, head, body) = head?;
-    push_comments(&mut state.declaration.later_attributes, head)?;
-    read_variants(reader, &mut state, body)?;
-    if state.declaration.variants.is_empty() {
-        reader.report.note(Note::Text(name.place, NO_VARIANTS))?;
-    }
-    if reader.report.faults.len() > fault_count {
-        return Ok(None);
-    }
-    name_in_json(alloc, &mut state)?;
-    Ok(Some(state.declaration))
+        derives,
+        options,
+        variants,
+        last_comments,
+        json_names,
+    }))
 }
 
-/// Sets the names of the variants in JSON, if the enum or a variant has an attribute that changes them.
-fn name_in_json(alloc: Global, state: &mut EnumState) -> Outcome {
-    let mut are_given = state.style.is_some();
-    for given in &state.json_names {
-        are_given |= given.is_some();
-    }
-    if are_given {
-        let style = match state.style {
-            Some((style, _)) => style,
-            None => OWN_STYLE,
-        };
-        let variants = &state.declaration.variants;
-        state.declaration.json_names = json_names(alloc, style, &state.json_names, variants)?;
-    }
-    Ok(())
+/// Reads the attributes of an enum.
+fn read_outside<'a, 'b>(
+    alloc: Global,
+    report: &mut Report<'a, 'b>,
+    attributes: &[Attribute<'a, 'b>],
+) -> Outcome<Outside<'a, 'b>> {
+    test_conditions(report, attributes)?;
+    let derives = read_derives(alloc, report, attributes)?;
+    let options = read_options(alloc, report, attributes)?;
+    test_other_impls(report, attributes, &options)?;
+    let style = match options.are_named() {
+        true => read_style(alloc, report, attributes)?,
+        false => None,
+    };
+    let setting = Setting {
+        derives: &derives,
+        are_named: options.are_named(),
+        is_variant: false,
+    };
+    let mut all = attributes.iter();
+    let first = all.position(|attribute| attribute.is("derive"));
+    let (earlier, later) = attributes.split_at(first.unwrap_or(0));
+    let lines = kept_lines(alloc, report, earlier, setting)?;
+    let later_lines = kept_lines(alloc, report, later, setting)?;
+    Ok(Outside {
+        derives,
+        options,
+        style,
+        lines,
+        later_lines,
+    })
 }
 
 /// The name of an enum, the tokens up to its `{`, and the tokens after that.
-fn read_head<'a, 'b>(
-    item: &Item<'a, 'b>,
-) -> Result<(&'b Token<'a>, &'b [Token<'a>], &'b [Token<'a>]), Fault> {
+type Head<'a, 'b> = (&'b Token<'a>, &'b [Token<'a>], &'b [Token<'a>]);
+
+/// Reads what is before the variants.
+fn read_head<'a, 'b>(item: &Item<'a, 'b>) -> Result<Head<'a, 'b>, Fault> {
     let (keyword, rest) = next_word(item, item.words(), "an enum")?;
     if OTHER_ITEMS.contains(&keyword.text) {
         return Err(keyword.fault("only an enum can derive `EnumSetType`"));
     }
     keyword.expect(keyword.is("enum"), "`enum`")?;
     let (name, rest) = next_word(item, rest, "the name of the enum")?;
-    test_name(name, "the name of the enum")?;
-    if name.is("TheVariants") {
-        return Err(name.fault(NO_ENUM_NAME));
-    }
-    let (open, body) = next_word(item, rest, "`{`")?;
-    if open.is("<") || open.is("where") {
-        return Err(open.fault("the enum must not have generic parameters"));
-    }
-    open.expect(open.is("{"), "`{`")?;
+    name.expect(name.is_ident(), "the name of the enum")?;
+    let (next, _) = next_word(item, rest, "`{`")?;
+    let open = rest.iter().position(|token| token.is("{"));
+    let (Some(open), true) = (open, next.is("{") || has_parameters(next)) else {
+        return Err(next.unexpected("`{`"));
+    };
+    let body = rest.get(open.saturating_add(1)..).unwrap_or(&[]);
     let length = item.tokens.len().saturating_sub(body.len());
     Ok((name, item.tokens.get(..length).unwrap_or(&[]), body))
+}
+
+/// Whether the parameters of an enum, or what they must satisfy, begin with this token.
+fn has_parameters(next: &Token) -> bool {
+    next.is("<") || next.is("where")
+}
+
+/// Reports parameters. `before` are the tokens up to the `{`.
+fn test_parameters(report: &mut Report, before: &[Token]) -> Outcome {
+    match before.iter().find(|token| has_parameters(&**token)) {
+        Some(next) => report.fault(next.fault("the enum must not have generic parameters")),
+        None => Ok(()),
+    }
 }
 
 /// The first token of an item that is not a comment, and the tokens after it. It is a fault if there is none, where
@@ -160,115 +178,28 @@ fn next_word<'a, 'b>(
     Err(Reason::Expected(expected, Found::End).at(place))
 }
 
-/// Reads the attributes of an enum: first the derives and the options, since the others to keep depend on them.
-fn read_attributes<'a, 'b>(
-    reader: &mut Reader<'a, 'b>,
-    state: &mut EnumState<'a, 'b>,
-    attributes: &[Attribute<'a, 'b>],
-) -> Outcome {
+/// Reports a name that an enum cannot have.
+fn test_enum_name(report: &mut Report, name: &Token) -> Outcome {
+    match name.is("TheVariants") {
+        true => report.fault(name.fault(NO_ENUM_NAME)),
+        false => test_name(report, name),
+    }
+}
+
+/// Reports derives that write what the module writes in another way: names in JSON, and `Display`.
+fn test_other_impls(report: &mut Report, attributes: &[Attribute], options: &Options) -> Outcome {
     for attribute in attributes {
-        if !attribute.is("derive") && !attribute.is("enumset") {
+        let is_conditional = attribute.is("cfg_attr");
+        if !is_conditional && !attribute.is("derive") {
             continue;
         }
-        match attribute.arguments(reader.alloc) {
-            Ok(arguments) => read_arguments(reader, state, attribute.is("derive"), &arguments)?,
-            Err(error) => reader.report.take(error)?,
-        }
-    }
-    test_json(reader, state, attributes)?;
-    let first = attributes
-        .iter()
-        .position(|attribute| attribute.is("derive"));
-    let (earlier, later) = attributes.split_at(first.unwrap_or(0));
-    state.declaration.attributes = read_lines(reader, state, earlier, false)?;
-    state.declaration.later_attributes = read_lines(reader, state, later, false)?;
-    Ok(())
-}
-
-/// Reads the arguments of `derive` or of `enumset`.
-fn read_arguments<'a, 'b>(
-    reader: &mut Reader<'a, 'b>,
-    state: &mut EnumState<'a, 'b>,
-    is_derive: bool,
-    arguments: &[&[Token<'a>]],
-) -> Outcome {
-    for argument in arguments {
-        let read = match is_derive {
-            true => read_derived(reader, state, argument),
-            false => state.read_option(argument),
-        };
-        if let Err(error) = read {
-            reader.report.take(error)?;
-        }
-    }
-    Ok(())
-}
-
-/// Reads one path of a derive. One that is not known is left out.
-fn read_derived<'a, 'b>(
-    reader: &mut Reader<'a, 'b>,
-    state: &mut EnumState<'a, 'b>,
-    argument: &[Token<'a>],
-) -> Outcome {
-    let Some(path) = Path::of(reader.alloc, argument)? else {
-        return Ok(());
-    };
-    let last = path.last;
-    let is_own = reader.imports.is_element_type(&last);
-    let known = path.known(reader.alloc, &reader.imports)?;
-    if !is_own && known.is_none() {
-        return reader
-            .report
-            .note(Note::Derive(path.first.place, path.text));
-    }
-    if let Some(first) = state.derived.get(last.text) {
-        return Err(Reason::GivenTwice("derive", *first).at(last.place).into());
-    }
-    state.derived.insert(last.text, last.place)?;
-    if !is_own {
-        state.declaration.derives.extend(known)?;
-    }
-    Ok(())
-}
-
-impl<'a> EnumState<'a, '_> {
-    /// Reads an option from an argument, which has the punctuation after it.
-    fn read_option(&mut self, argument: &[Token<'a>]) -> Outcome {
-        read_option(&mut self.declaration.options, &self.options, argument)?;
-        Ok(self.options.extend(argument.first().copied())?)
-    }
-}
-
-/// Reports a crate without sets in JSON and derives that would change the elements in JSON, and notes an option that has
-/// no effect.
-fn test_json<'a, 'b>(
-    reader: &mut Reader<'a, 'b>,
-    state: &EnumState<'a, 'b>,
-    attributes: &[Attribute<'a, 'b>],
-) -> Outcome {
-    let options = &state.declaration.options;
-    if options.denies_unknown && options.serialized.is_none() {
-        let mut given = state.options.iter();
-        let option = given.find(|option| option.is("serialize_deny_unknown"));
-        let place = option.unwrap_or(&state.declaration.name).place;
-        reader.report.note(Note::Text(place, DENY_ALONE))?;
-    }
-    let other = options
-        .crate_name
-        .filter(|(name, _)| *name == "enumset_sets");
-    if let Some((_, place)) = other.filter(|_| options.serialized.is_some()) {
-        reader
-            .report
-            .faults
-            .push(Reason::Text(OTHER_LIBRARY).at(place))?;
-    }
-    for attribute in attributes.iter().filter(|_| options.are_named()) {
-        let is_conditional = attribute.is("cfg_attr");
         for word in attribute.words() {
-            let name = reader.imports.original(word.text);
-            if is_other_json(name) && (is_conditional || attribute.is("derive")) {
-                reader.report.faults.push(word.fault(OWN_JSON))?;
-                break;
+            if options.are_named() && is_other_json(word.text) {
+                report.fault(word.fault(OWN_JSON))?;
+            }
+            let is_display = word.is("Display") || word.is("Error");
+            if options.has_display && is_display && !is_conditional {
+                report.fault(word.fault(OTHER_DISPLAY))?;
             }
         }
     }

@@ -1,9 +1,14 @@
 //! Reads the names of variants in JSON from attributes of `serde`.
 
+ghost use Rattle.std.specs.Prelude.{IfOk, string_bytes};
+ghost use Rattle.enumset_derive.specs.JsonNames.{IsJsonName};
+
 use super::options::value_of;
 use crate::fault::{Fault, Outcome, Reason, TokenFaults};
-use crate::plan::Variant;
-use enumset_tokens::{Place, Token};
+use crate::items::Attribute;
+use crate::plan::{Rename, Variant};
+use crate::report::Report;
+use enumset_source::{Place, Style, Token, style_of, styled};
 use std::alloc::{AllocError, Global};
 use std::collections::BTreeMap;
 
@@ -16,28 +21,75 @@ const WRONG_STYLE: &str =
 
 const NOT_PLAIN: &str = "a name in JSON must be printable ASCII without `\"` and `\\`";
 
-/// The style in which names stay as they are.
-pub(super) const OWN_STYLE: &str = "PascalCase";
+/// The style that `rename_all` gives to the names of an enum.
+pub(super) fn read_style(
+    alloc: Global,
+    report: &mut Report,
+    attributes: &[Attribute],
+) -> Outcome<Option<Style>> {
+    let given = read_names(alloc, report, attributes, false)?;
+    let Some((text, place)) = given else {
+        return Ok(None);
+    };
+    let style = style_of(text);
+    if style.is_none() {
+        report.fault(Reason::Text(WRONG_STYLE).at(place))?;
+    }
+    Ok(style)
+}
 
-const STYLES: [&str; 8] = [
-    "lowercase",
-    "UPPERCASE",
-    "PascalCase",
-    "camelCase",
-    "snake_case",
-    "SCREAMING_SNAKE_CASE",
-    "kebab-case",
-    "SCREAMING-KEBAB-CASE",
-];
+/// The name that `rename` gives to a variant.
+pub(super) fn read_rename<'a>(
+    alloc: Global,
+    report: &mut Report,
+    attributes: &[Attribute<'a, '_>],
+) -> Outcome<Option<Rename<'a>>> {
+    let given = read_names(alloc, report, attributes, true)?;
+    if let Some((_, place)) = given.filter(|(text, _)| !is_plain(text)) {
+        report.fault(Reason::Text(NOT_PLAIN).at(place))?;
+    }
+    Ok(given)
+}
 
-/// The value of an attribute, and its place.
-pub(super) type Given<'a> = (&'a str, Place);
+/// The last value of `rename_all`, or for a variant of `rename`. Anything else that changes names is a fault.
+fn read_names<'a>(
+    alloc: Global,
+    report: &mut Report,
+    attributes: &[Attribute<'a, '_>],
+    is_variant: bool,
+) -> Outcome<Option<Rename<'a>>> {
+    let mut given = None;
+    for attribute in attributes {
+        if attribute.is("serde") {
+            match attribute.arguments(alloc) {
+                Ok(arguments) => {
+                    given = last_name(report, &arguments, is_variant)?.or(given);
+                }
+                Err(error) => report.take(error)?,
+            }
+        }
+    }
+    Ok(given)
+}
+
+/// The last such value among the arguments of `serde`.
+fn last_name<'a>(
+    report: &mut Report,
+    arguments: &[&[Token<'a>]],
+    is_variant: bool,
+) -> Outcome<Option<Rename<'a>>> {
+    let mut given = None;
+    for argument in arguments {
+        match given_name(argument, is_variant) {
+            Ok(name) => given = name.or(given),
+            Err(fault) => report.fault(fault)?,
+        }
+    }
+    Ok(given)
+}
 
 /// The value of `rename` or `rename_all` in an argument of `serde`, or `None` if the argument does not change names.
-pub(super) fn given_name<'a>(
-    argument: &[Token<'a>],
-    is_variant: bool,
-) -> Result<Option<Given<'a>>, Fault> {
+fn given_name<'a>(argument: &[Token<'a>], is_variant: bool) -> Result<Option<Rename<'a>>, Fault> {
     let [name, rest @ ..] = argument else {
         return Ok(None);
     };
@@ -52,32 +104,34 @@ pub(super) fn given_name<'a>(
         return Err(name.fault(OTHER));
     }
     let (value, text) = value_of(name, rest)?;
-    if !is_variant && !STYLES.contains(&text) {
-        return Err(value.fault(WRONG_STYLE));
-    }
-    let is_plain = |letter| matches!(letter, ' '..='!' | '#'..='[' | ']'..='~');
-    match text.chars().all(is_plain) {
-        true => Ok(Some((text, value.place))),
-        false => Err(value.fault(NOT_PLAIN)),
-    }
+    Ok(Some((text, value.place)))
 }
 
-/// The names of the variants in JSON, in their order: the name given, or else the variant's own name in this style.
+/// Whether a text can be a name in JSON as it is written.
+fn is_plain(text: &str) -> bool {
+    let is_plain = |letter| matches!(letter, ' '..='!' | '#'..='[' | ']'..='~');
+    text.chars().all(is_plain)
+}
+
+/// The names of the variants in JSON, in their order: the name given, or else the variant's own name in this style. Empty
+/// if each is the variant's own name. Names that are given twice are reported.
 pub(super) fn json_names(
     alloc: Global,
-    style: &str,
-    given: &[Option<Given>],
+    report: &mut Report,
+    style: Option<Style>,
     variants: &[Variant],
 ) -> Outcome<Vec<String>> {
     let mut names: Vec<String> = Vec::new(alloc);
     let mut places: BTreeMap<String, Place> = BTreeMap::new(alloc);
-    for (variant, given) in variants.iter().zip(given.iter()) {
-        let (name, place) = match given {
-            Some((name, place)) => (String::from_str(alloc, name)?, *place),
-            None => (styled(alloc, style, variant.name)?, variant.place),
-        };
+    if style.is_none() && variants.iter().all(|variant| variant.rename.is_none()) {
+        return Ok(names);
+    }
+    let style = style.unwrap_or(Style::Pascal);
+    for variant in variants {
+        let name = json_name(alloc, style, variant)?;
+        let place = variant.rename.map_or(variant.place, |(_, place)| place);
         if let Some(first) = places.get(name.as_str()) {
-            return Err(Reason::GivenTwice("name in JSON", *first).at(place).into());
+            report.fault(Reason::GivenTwice("name in JSON", *first).at(place))?;
         }
         places.insert(name.clone()?, place)?;
         names.push(name)?;
@@ -85,25 +139,12 @@ pub(super) fn json_names(
     Ok(names)
 }
 
-/// The name of a variant in a style of `serde`. Each capital in the name begins a word.
-fn styled(alloc: Global, style: &str, name: &str) -> Result<String, AllocError> {
-    let mut separators = style.matches(|letter| matches!(letter, '_' | '-'));
-    let separator = separators.next().unwrap_or("");
-    let mut text = String::new(alloc);
-    for (at, character) in name.char_indices() {
-        if at > 0 && character.is_ascii_uppercase() {
-            text.push_str(separator)?;
-        }
-        match character {
-            '_' if !separator.is_empty() => text.push_str(separator)?,
-            _ if at == 0 && style == "camelCase" => text.push(character.to_ascii_lowercase())?,
-            _ => text.push(character)?,
-        }
+/// The name of a variant in JSON: the name given, or else its own name in this style.
+fn json_name(alloc: Global, style: Style, variant: &Variant) -> Result<String, AllocError>
+    ensures { IfOk result (λ name. IsJsonName style variant.now (string_bytes name)) }
+{
+    match variant.rename {
+        Some((name, _)) => String::from_str(alloc, name),
+        None => styled(alloc, style, variant.name),
     }
-    match style {
-        "lowercase" | "snake_case" | "kebab-case" => text.make_ascii_lowercase(),
-        "PascalCase" | "camelCase" => {}
-        _ => text.make_ascii_uppercase(),
-    }
-    Ok(text)
 }

@@ -1,8 +1,11 @@
 //! Reads the options of an enum from `#[enumset(..)]`.
 
-use crate::fault::{Fault, Reason, TokenFaults};
+use crate::fault::{Fault, Outcome, Reason, TokenFaults};
+use crate::items::Attribute;
 use crate::plan::Options;
-use enumset_tokens::{Token, map_of, representation_of, serialized_of};
+use crate::report::{Note, Report};
+use enumset_source::{Map, Place, Token, map_of, representation_of, serialized_of};
+use std::alloc::Global;
 
 const WRONG_MAP: &str = "`map` must be \"lsb\", \"msb\", \"mask\" or \"compact\"";
 
@@ -17,58 +20,120 @@ const WRONG_CRATE: &str = "`crate_name` must be an identifier such as \"enumset\
 
 const OLD_LIST: &str = "`serialize_as_list` is now `serialize_repr = \"list\"`";
 
-/// The keywords that cannot begin a path.
-const NO_ROOTS: [&str; 53] = [
-    "_", "Self", "abstract", "as", "async", "await", "become", "box", "break", "const", "continue",
-    "do", "dyn", "else", "ensures", "enum", "extern", "false", "final", "fn", "for", "ghost",
-    "gen", "if", "impl", "in", "let", "loop", "macro", "match", "mod", "move", "mut", "override",
-    "priv", "pub", "ref", "requires", "return", "static", "struct", "trait", "true", "try", "type",
-    "typeof", "unsafe", "unsized", "use", "virtual", "where", "while", "yield",
-];
+const UNKNOWN: &str =
+    "unknown option: the options are map, repr, serialize_repr, serialize_deny_unknown, no_ops, \
+    no_super_impls, display and crate_name";
 
-/// Reads an option from an argument, which has the punctuation after it. `given` are the names of the options before
-/// it.
-pub(super) fn read_option<'a>(
-    options: &mut Options<'a>,
+const DENY_ALONE: &str = "`serialize_deny_unknown` has no effect without `serialize_repr`";
+
+const OTHER_LIBRARY: &str =
+    "sets in JSON need `enumset`: remove this `crate_name`, or `serialize_repr`";
+
+/// The options that were read.
+#[derive(Drop)]
+struct Read<'a> {
+    options: Options<'a>,
+    /// The names of the options that are given.
+    given: Vec<Token<'a>>,
+    /// The name of `map` or `repr`, if its value cannot be read.
+    unread: Option<Token<'a>>,
+}
+
+/// The options in these attributes. If `map` or `repr` cannot be read, so that no bit is known, `map` is `Compact`.
+pub(super) fn read_options<'a>(
+    alloc: Global,
+    report: &mut Report,
+    attributes: &[Attribute<'a, '_>],
+) -> Outcome<Options<'a>> {
+    let mut read = Read {
+        options: Options::default(),
+        given: Vec::new(alloc),
+        unread: None,
+    };
+    for attribute in attributes {
+        if attribute.is("enumset") {
+            match attribute.arguments(alloc) {
+                Ok(arguments) => read_arguments(report, &mut read, &arguments)?,
+                Err(error) => report.take(error)?,
+            }
+        }
+    }
+    let mut options = read.options;
+    test_json(report, &options, &read.given)?;
+    if let Some(name) = read.unread {
+        options.map = Some((Map::Compact, name.place));
+        options.representation = None;
+    }
+    Ok(options)
+}
+
+/// Adds the options that an attribute has as its arguments.
+fn read_arguments<'a>(
+    report: &mut Report,
+    read: &mut Read<'a>,
+    arguments: &[&[Token<'a>]],
+) -> Outcome {
+    for argument in arguments {
+        let name = argument.first().copied();
+        match read_option(read.options, &read.given, argument) {
+            Ok(options) => read.options = options,
+            Err(fault) => {
+                let unread = name.filter(|name| name.is("map") || name.is("repr"));
+                read.unread = read.unread.or(unread);
+                report.fault(fault)?;
+            }
+        }
+        read.given.extend(name)?;
+    }
+    Ok(())
+}
+
+/// Reports a crate without sets in JSON, and notes an option that has no effect. `given` are the names of the options.
+fn test_json(report: &mut Report, options: &Options, given: &[Token]) -> Outcome {
+    let place_of = |name: &str| {
+        let mut given = given.iter();
+        let first = given.find(|token| token.is(name));
+        first.map_or(Place::BEGIN, |first| first.place)
+    };
+    if options.denies_unknown && options.serialized.is_none() {
+        let place = place_of("serialize_deny_unknown");
+        report.note(Note::Text(place, DENY_ALONE))?;
+    }
+    match options.crate_name {
+        Some(("enumset_sets", place)) if options.serialized.is_some() => {
+            report.fault(Reason::Text(OTHER_LIBRARY).at(place))
+        }
+        _ => Ok(()),
+    }
+}
+
+/// The options with the one in an argument, which has the punctuation after it. `given` are the names of the options
+/// before it.
+fn read_option<'a>(
+    options: Options<'a>,
     given: &[Token<'a>],
     argument: &[Token<'a>],
-) -> Result<(), Fault> {
+) -> Result<Options<'a>, Fault> {
     let [name, rest @ ..] = argument else {
-        return Ok(());
+        return Ok(options);
     };
     name.expect(name.is_ident(), "an option or `)`")?;
     if let Some(first) = given.iter().find(|first| first.is(name.text)) {
         return Err(Reason::GivenTwice("option", first.place).at(name.place));
     }
+    test_end(rest)?;
     match name.text {
-        "map" => {
-            let (value, text) = value_of(name, rest)?;
-            let map = map_of(text).ok_or(value.fault(WRONG_MAP))?;
-            options.map = Some((map, value.place));
+        "map" | "repr" | "serialize_repr" | "crate_name" => with_text(options, name, rest),
+        "serialize_deny_unknown" | "no_ops" | "no_super_impls" | "display" => {
+            with_boolean(options, name, rest)
         }
-        "repr" => {
-            let (value, text) = value_of(name, rest)?;
-            let representation = representation_of(text);
-            options.representation = Some(representation.ok_or(value.fault(WRONG_REPRESENTATION))?);
-        }
-        "serialize_repr" => {
-            let (value, text) = value_of(name, rest)?;
-            options.serialized = Some(serialized_of(text).ok_or(value.fault(WRONG_FORM))?);
-        }
-        "crate_name" => {
-            let (value, text) = value_of(name, rest)?;
-            if !is_crate_name(text) {
-                return Err(value.fault(WRONG_CRATE));
-            }
-            options.crate_name = Some((text, value.place));
-        }
-        "serialize_deny_unknown" => options.denies_unknown = boolean_of(rest)?,
-        "no_ops" => options.leaves_out_operators = boolean_of(rest)?,
-        "no_super_impls" => options.leaves_out_supertraits = boolean_of(rest)?,
-        "display" => options.has_display = boolean_of(rest)?,
-        "serialize_as_list" => return Err(name.fault(OLD_LIST)),
-        _ => return Err(name.fault("unknown option")),
+        "serialize_as_list" => Err(name.fault(OLD_LIST)),
+        _ => Err(name.fault(UNKNOWN)),
     }
+}
+
+/// Tests that punctuation follows an option. `rest` follows its name.
+fn test_end(rest: &[Token]) -> Result<(), Fault> {
     let after = match rest {
         [equal, _, after @ ..] if equal.is("=") => after,
         after => after,
@@ -77,6 +142,45 @@ pub(super) fn read_option<'a>(
         [more, ..] => more.expect(more.is_punct(",)]}"), "`,` or `)`"),
         [] => Ok(()),
     }
+}
+
+/// The options with one whose value is a text.
+fn with_text<'a>(
+    mut options: Options<'a>,
+    name: &Token<'a>,
+    rest: &[Token<'a>],
+) -> Result<Options<'a>, Fault> {
+    let (value, text) = value_of(name, rest)?;
+    match name.text {
+        "map" => {
+            let map = map_of(text).ok_or(value.fault(WRONG_MAP))?;
+            options.map = Some((map, value.place));
+        }
+        "repr" => {
+            let representation = representation_of(text);
+            options.representation = Some(representation.ok_or(value.fault(WRONG_REPRESENTATION))?);
+        }
+        "crate_name" if is_identifier(text) => options.crate_name = Some((text, value.place)),
+        "crate_name" => return Err(value.fault(WRONG_CRATE)),
+        _ => options.serialized = Some(serialized_of(text).ok_or(value.fault(WRONG_FORM))?),
+    }
+    Ok(options)
+}
+
+/// The options with one that is true or false.
+fn with_boolean<'a>(
+    mut options: Options<'a>,
+    name: &Token,
+    rest: &[Token],
+) -> Result<Options<'a>, Fault> {
+    let value = boolean_of(rest)?;
+    match name.text {
+        "serialize_deny_unknown" => options.denies_unknown = value,
+        "no_ops" => options.leaves_out_operators = value,
+        "no_super_impls" => options.leaves_out_supertraits = value,
+        _ => options.has_display = value,
+    }
+    Ok(options)
 }
 
 /// The value of an option or attribute with this name, and the text in its quotes. `rest` follows the name.
@@ -106,11 +210,9 @@ fn boolean_of(rest: &[Token]) -> Result<bool, Fault> {
     }
 }
 
-/// Whether a text can be the name of a crate in a path: an ASCII identifier that is not a keyword, or `crate`, `self`
-/// or `super`.
-fn is_crate_name(text: &str) -> bool {
+/// Whether a text is an ASCII identifier or a keyword.
+fn is_identifier(text: &str) -> bool {
     let is_letter = |letter: char| letter.is_ascii_alphanumeric() || letter == '_';
     let is_digit = |letter: char| letter.is_ascii_digit();
-    let is_plain = text.chars().all(is_letter) && !text.starts_with(is_digit);
-    !text.is_empty() && is_plain && !NO_ROOTS.contains(&text)
+    !text.is_empty() && text.chars().all(is_letter) && !text.starts_with(is_digit)
 }

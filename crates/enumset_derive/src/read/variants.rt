@@ -1,20 +1,14 @@
 //! Reads the variants of an enum, and tests names.
 
-use super::Reader;
+use super::attributes::{Setting, kept_lines};
 use super::discriminants::read_discriminant;
-use super::enums::EnumState;
-use super::lines::read_lines;
-use crate::fault::{Fault, Found, Outcome, Reason, TokenFaults};
-use crate::items::Attribute;
-use crate::plan::{Options, Variant};
-use enumset_tokens::{Kind, Map, Place, Token};
+use super::json_names::read_rename;
+use crate::fault::{Fault, Outcome, TokenFaults};
+use crate::items::{Attribute, bracket_length};
+use crate::plan::{Discriminant, Line, Options, Variant};
+use crate::report::Report;
+use enumset_source::{Kind, Map, Token};
 use std::alloc::Global;
-use std::mem;
-
-/// The keywords of Rattle that are identifiers in Rust.
-const KEYWORDS: [&str; 4] = ["ghost", "requires", "ensures", "deriving"];
-
-const KEYWORD: &str = "this is a keyword of Rattle: choose another name";
 
 const RAW: &str = "raw identifiers are not supported: choose a name that is not a keyword";
 
@@ -22,44 +16,55 @@ const NOT_ASCII: &str = "names must be ASCII";
 
 const A_VARIANT: &str = "a variant";
 
+/// The variants of an enum, and the comments after the last one.
+#[derive(Drop)]
+pub(super) struct Body<'a, 'b> {
+    pub variants: Vec<Variant<'a, 'b>>,
+    pub last_comments: Vec<Line<'a, 'b>>,
+}
+
 /// Reads the variants of an enum. `body` has the tokens after its `{`, up to the `}`.
-pub(super) fn read_variants<'a, 'b>(
-    reader: &mut Reader<'a, 'b>,
-    state: &mut EnumState<'a, 'b>,
+pub(super) fn read_body<'a, 'b>(
+    alloc: Global,
+    report: &mut Report<'a, 'b>,
     body: &'b [Token<'a>],
-) -> Outcome {
+    options: &Options,
+    setting: Setting<'_, 'a>,
+) -> Outcome<Body<'a, 'b>> {
+    let mut variants: Vec<Variant> = Vec::new(alloc);
+    let mut last_comments = Vec::new(alloc);
     let mut rest = body;
     for _ in 0..body.len() {
         // Too many variants are a fault of the plan, for which one too many is enough.
-        if state.declaration.variants.len() > 256 {
+        if variants.len() > 256 {
             break;
         }
         let length = variant_length(rest);
-        let (attributes, tokens) = Attribute::before(
-            reader.alloc,
-            rest.get(..length).unwrap_or(rest),
-        )?;
+        let own = rest.get(..length).unwrap_or(rest);
         rest = rest.get(length..).unwrap_or(&[]);
+        let (attributes, tokens) = Attribute::before(alloc, own)?;
         let Some(name) = tokens.first() else {
             break;
         };
-        let lines = read_lines(reader, state, &attributes, true)?;
+        let lines = kept_lines(alloc, report, &attributes, setting)?;
         let has_attribute = attributes.iter().any(|attribute| !attribute.is_comment());
         if name.is("}") && !has_attribute {
-            state.declaration.last_comments = lines;
+            last_comments = lines;
             break;
         }
-        match read_variant(reader.alloc, &state.declaration.options, tokens) {
-            Ok(mut variant) => {
-                variant.attributes = lines;
-                variant.is_apart = state.is_apart || name.is_after_empty_line();
-                state.declaration.variants.push(variant)?;
-                state.json_names.push(mem::take(&mut state.json_name))?;
+        if let Some(mut variant) = read_variant(alloc, report, options, tokens)? {
+            variant.lines = lines;
+            variant.is_apart = own.first().is_some_and(|first| first.is_after_empty_line());
+            if setting.are_named {
+                variant.rename = read_rename(alloc, report, &attributes)?;
             }
-            Err(error) => reader.report.take(error)?,
+            variants.push(variant)?;
         }
     }
-    Ok(())
+    Ok(Body {
+        variants,
+        last_comments,
+    })
 }
 
 /// The number of tokens in the variant at the beginning, with the comments after it on its line. For the last variant
@@ -78,62 +83,88 @@ fn variant_length(tokens: &[Token]) -> usize {
         .saturating_add(1)
 }
 
-/// Reads a variant, from its name to the comments after its punctuation.
+/// Reads a variant, from its name to the comments after its punctuation, or returns `None` if it has no name.
 fn read_variant<'a, 'b>(
     alloc: Global,
+    report: &mut Report,
     options: &Options,
     tokens: &'b [Token<'a>],
-) -> Outcome<Variant<'a, 'b>> {
-    let (words, comments): (Vec<Token>, Vec<Token>) = (
-        tokens
-            .iter()
-            .filter(|token| !token.is_comment())
-            .copied()
-            .collect(alloc)?,
+) -> Outcome<Option<Variant<'a, 'b>>> {
+    let (comments, words): (Vec<Token>, Vec<Token>) = (
         tokens
             .iter()
             .filter(|token| token.is_comment())
             .copied()
             .collect(alloc)?,
+        tokens
+            .iter()
+            .filter(|token| !token.is_comment())
+            .copied()
+            .collect(alloc)?,
     );
     let [name, rest @ ..] = words.as_slice() else {
-        return Err(
-            Reason::Expected(A_VARIANT, Found::End)
-                .at(Place::BEGIN)
-                .into(),
-        );
+        return Ok(None);
     };
-    test_name(name, A_VARIANT)?;
-    let discriminant = match rest {
-        [end] if end.is_punct(",}") => None,
-        [equal, value @ .., end] if equal.is("=") => {
-            let has_masks = matches!(options.map, Some((Map::Mask, _)));
-            Some(read_discriminant(value, end, has_masks)?)
+    if !name.is_ident() {
+        report.fault(name.unexpected(A_VARIANT))?;
+        return Ok(None);
+    }
+    test_name(report, name)?;
+    let has_masks = matches!(options.map, Some((Map::Mask, _)));
+    let discriminant = match discriminant_in(name, rest, has_masks) {
+        Ok(discriminant) => discriminant,
+        Err(fault) => {
+            report.fault(fault)?;
+            discriminant_after_fields(rest)
         }
-        [next, ..] if next.is_punct("({") => {
-            return Err(next.fault("a variant must not have fields").into());
-        }
-        [next, ..] => return Err(next.unexpected("`,` or `}`").into()),
-        [] => return Err(name.unexpected("`,` or `}`").into()),
     };
-    let comments = comments.iter().map(|comment| comment.text).collect(alloc)?;
-    Ok(Variant {
+    Ok(Some(Variant {
         place: name.place,
-        attributes: Vec::new(alloc),
+        lines: Vec::new(alloc),
         is_apart: false,
         name: name.text,
+        rename: None,
         discriminant,
-        comments,
-    })
+        comments: comments.iter().map(|comment| comment.text).collect(alloc)?,
+    }))
 }
 
-/// Tests that a token is a valid name in Rattle, where this is expected.
-pub(super) fn test_name(name: &Token, expected: &'static str) -> Result<(), Fault> {
-    name.expect(name.is_ident(), expected)?;
+/// Reads a discriminant from the tokens after the name of a variant.
+fn discriminant_in<'a>(
+    name: &Token<'a>,
+    rest: &[Token<'a>],
+    has_masks: bool,
+) -> Result<Discriminant<'a>, Fault> {
+    match rest {
+        [end] if end.is_punct(",}") => Ok(Discriminant::Implied),
+        [equal, value @ .., end] if equal.is("=") => {
+            let given = read_discriminant(value, end, has_masks)?;
+            Ok(Discriminant::Given(given))
+        }
+        [next, ..] if next.is_punct("({") => Err(next.fault("a variant must not have fields")),
+        [next, ..] => Err(next.unexpected("`,` or `}`")),
+        [] => Err(name.unexpected("`,` or `}`")),
+    }
+}
+
+/// The discriminant of a variant with a fault: implied if nothing follows its fields.
+fn discriminant_after_fields<'a>(rest: &[Token<'a>]) -> Discriminant<'a> {
+    match rest {
+        [open, inside @ ..] if open.is_punct("({") => {
+            match rest.get(bracket_length(1, open, inside)..) {
+                Some([_]) => Discriminant::Implied,
+                _ => Discriminant::Unread,
+            }
+        }
+        _ => Discriminant::Unread,
+    }
+}
+
+/// Reports a name that cannot be a name in Rattle.
+pub(super) fn test_name(report: &mut Report, name: &Token) -> Outcome {
     match name.text {
-        text if text.starts_with("r#") => Err(name.fault(RAW)),
-        text if !text.is_ascii() => Err(name.fault(NOT_ASCII)),
-        text if KEYWORDS.contains(&text) => Err(name.fault(KEYWORD)),
+        text if text.starts_with("r#") => report.fault(name.fault(RAW)),
+        text if !text.is_ascii() => report.fault(name.fault(NOT_ASCII)),
         _ => Ok(()),
     }
 }

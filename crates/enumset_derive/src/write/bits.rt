@@ -1,17 +1,13 @@
 //! Writes the terms of contracts for the bits of variants, and for sets in JSON that consist of names.
 
 use super::layout::list_of;
-use super::names::json_names_of;
-use super::{Text, Written, facade_of, library_of};
+use super::names::{json_names_of, unknown_of};
+use super::{Text, Written, facade_of, library_of, write_origin};
 use crate::Request;
 use crate::element::Element;
 use crate::plan::Options;
-use enumset_tokens::Serialized;
+use enumset_source::Serialized;
 use std::alloc::Global;
-
-/// The line that the file begins with.
-const HEAD: &str =
-    "-- Written by enumset_derive from the enum's source: change the source, and write this file again.\n";
 
 /// What the terms for sets in JSON import besides the definitions that read them.
 const OF_JSON: &str = "use Rattle.enumset.specs.Names.{Names, names_of}
@@ -91,47 +87,73 @@ impl Terms {
     }
 }
 
-/// The text of a file in `specs/` with terms for clauses over each enum: the bit of a variant, and if sets in JSON
-/// consist of names, these names, and the set that a reader makes of a value or of a text.
+/// The text of a file in `specs/` with terms for clauses over each enum that exists not only for tests: the bit of a
+/// variant, and if sets in JSON consist of names, these names, and the set that a reader makes of a value or of a text.
 pub fn bits_text(alloc: Global, request: &Request, elements: &[Element]) -> Text {
-    let mut text = String::from_str(alloc, HEAD)?;
+    let mut text = String::from_str(alloc, "-- ")?;
+    write_origin(&mut text, request, elements)?;
+    text.push_str(": change the source, and write this again.\n")?;
+    let count = elements
+        .iter()
+        .filter(|element| element.has_terms())
+        .count();
+    if count == 0 {
+        return Ok(text);
+    }
     write_imports(&mut text, elements)?;
     for element in elements {
-        let name = element.declaration.name.text;
-        let Terms {
-            import,
-            type_import,
-            ..
-        } = Terms::of(alloc, name, elements.len())?;
-        let (crate_name, module) = (request.crate_name, &request.module);
-        write!(
-            text,
-            "use Rattle.{crate_name}.specs.contracts.{module}.{name}.{{{import}}}\n"
-        )?;
-        write!(
-            text,
-            "use Rattle.{crate_name}.specs.declared.{module}.{name}.{{{type_import}}}\n"
-        )?;
+        if element.has_terms() {
+            let terms = Terms::of(alloc, element.declaration.head.name.text, count)?;
+            write_own_imports(&mut text, request, element, &terms)?;
+        }
     }
     for element in elements {
-        let name = element.declaration.name.text;
-        let terms = Terms::of(alloc, name, elements.len())?;
-        let model = terms.elements(alloc, element)?;
-        let (suffix, type_name) = (&terms.suffix, &terms.type_name);
-        write!(
-            text,
-            "\nabbrev pub bit{suffix} : {type_name} → ℕ\nbit{suffix} v = ({model}).bit v\n"
-        )?;
-        if let Some(reader) = reader_of(&element.declaration.options) {
-            let names = json_names_of(alloc, element)?;
-            let names = list_of(alloc, 100, &names, "codes \"", "\"")?;
-            let unknown = match element.declaration.options.denies_unknown {
-                true => "Refuse",
-                false => "Drop",
-            };
-            write!(
-                text,
-                "\n-- the names in JSON
+        if element.has_terms() {
+            let terms = Terms::of(alloc, element.declaration.head.name.text, count)?;
+            write_terms(&mut text, alloc, element, &terms)?;
+        }
+    }
+    Ok(text)
+}
+
+/// Writes the imports of an enum.
+fn write_own_imports(
+    out: &mut String,
+    request: &Request,
+    element: &Element,
+    terms: &Terms,
+) -> Written {
+    let (crate_name, module) = (request.crate_name, &request.module);
+    let (name, import, type_import) = (
+        element.declaration.head.name.text,
+        &terms.import,
+        &terms.type_import,
+    );
+    write!(
+        out,
+        "use Rattle.{crate_name}.specs.contracts.{module}.{name}.{{{import}}}
+use Rattle.{crate_name}.specs.declared.{module}.{name}.{{{type_import}}}\n"
+    )
+}
+
+/// Writes the terms of an enum.
+fn write_terms(out: &mut String, alloc: Global, element: &Element, terms: &Terms) -> Written {
+    let model = terms.elements(alloc, element)?;
+    let (suffix, type_name) = (&terms.suffix, &terms.type_name);
+    write!(
+        out,
+        "\nabbrev pub bit{suffix} : {type_name} → ℕ\nbit{suffix} v = ({model}).bit v\n"
+    )?;
+    let options = &element.declaration.options;
+    let Some(reader) = reader_of(options) else {
+        return Ok(());
+    };
+    let names = json_names_of(alloc, element)?;
+    let names = list_of(alloc, 100, &names, "codes \"", "\"")?;
+    let unknown = unknown_of(options);
+    write!(
+        out,
+        "\n-- the names in JSON
 abbrev pub names{suffix} : Names
 names{suffix} = names_of ({model})
     ({names})\n
@@ -141,10 +163,7 @@ set{suffix}_read = {reader} names{suffix} unknown.{unknown}\n
 -- the same of a text, or `None` if it is not JSON
 abbrev pub set{suffix}_in : List ℕ → Option (Result BitSet JsonFault)
 set{suffix}_in text = value_read set{suffix}_read text\n"
-            )?;
-        }
-    }
-    Ok(text)
+    )
 }
 
 /// The name of the definition that reads sets of names from JSON, if the option `serialize_repr` asks for names.
@@ -158,25 +177,31 @@ fn reader_of(options: &Options) -> Option<&'static str> {
 
 /// Writes the imports that do not depend on the names of the enums.
 fn write_imports(out: &mut String, elements: &[Element]) -> Written {
-    let are_in_place = elements.iter().any(|element| element.is_in_place());
-    let are_listed = elements.iter().any(|element| !element.is_in_place());
-    let are_read_by = |name| {
-        let mut all = elements.iter();
-        all.any(|element| reader_of(&element.declaration.options) == Some(name))
-    };
-    let readers = match (are_read_by("set_of_list"), are_read_by("set_of_map")) {
+    let (mut has_lists, mut has_maps, mut are_in_place, mut are_listed) = (
+        false, false, false, false,
+    );
+    for element in elements {
+        if element.has_terms() {
+            let form = element.declaration.options.serialized;
+            has_lists |= matches!(form, Some(Serialized::List));
+            has_maps |= matches!(form, Some(Serialized::Map));
+            are_in_place |= element.is_in_place();
+            are_listed |= !element.is_in_place();
+        }
+    }
+    let readers = match (has_lists, has_maps) {
         (true, true) => Some("set_of_list, set_of_map"),
         (true, false) => Some("set_of_list"),
         (false, true) => Some("set_of_map"),
         (false, false) => None,
     };
-    let library = library_of(facade_of(elements));
     out.push_str("use Rattle.std.specs.Prelude.{ℕ")?;
     out.push_str(match (readers, are_listed) {
         (Some(_), _) => ", List, ◌∷◌, [], codes, Option, Result}\n",
         (None, true) => ", ◌∷◌, []}\n",
         (None, false) => "}\n",
     })?;
+    let library = library_of(facade_of(elements));
     let sets = if readers.is_some() { "BitSet, " } else { "" };
     let models = match (are_in_place, are_listed) {
         (true, true) => "in_place, with_bits",

@@ -2,8 +2,8 @@
 
 use super::Written;
 use crate::element::Element;
-use crate::plan::{Discriminant, EnumDeclaration, Line, Variant};
-use enumset_tokens::{Number, tokens};
+use crate::plan::{Discriminant, EnumDeclaration, Given, Line, Variant};
+use enumset_source::{Number, tokens};
 use std::alloc::Global;
 
 /// The comment on an enum that lost its discriminants.
@@ -16,20 +16,24 @@ const SUPERTRAITS: [&str; 4] = ["Clone", "Copy", "PartialEq", "Eq"];
 /// Writes the enum.
 pub(super) fn write_enum(out: &mut String, alloc: Global, element: &Element) -> Written {
     let declaration = &element.declaration;
-    write_lines(out, &declaration.attributes, "")?;
+    let head = &declaration.head;
+    write_lines(out, &head.lines, "")?;
     if !element.has_discriminants {
         out.push_str(DROPPED)?;
     }
     write_derives(out, alloc, declaration)?;
-    write_lines(out, &declaration.later_attributes, "")?;
-    if !declaration.visibility.is_empty() {
-        write!(out, "{} ", tokens::Written(declaration.visibility))?;
+    write_lines(out, &head.later_lines, "")?;
+    if !head.visibility.is_empty() {
+        write!(out, "{} ", tokens::Written(head.visibility))?;
     }
-    write!(out, "enum {} {{", declaration.name.text)?;
+    write!(out, "enum {} {{", head.name.text)?;
     if !declaration.variants.is_empty() || !declaration.last_comments.is_empty() {
         out.push('\n')?;
     }
-    for variant in &declaration.variants {
+    for (index, variant) in declaration.variants.iter().enumerate() {
+        if variant.is_apart && index > 0 {
+            out.push('\n')?;
+        }
         write_variant(out, variant, element.has_discriminants)?;
     }
     write_lines(out, &declaration.last_comments, "    ")?;
@@ -39,27 +43,18 @@ pub(super) fn write_enum(out: &mut String, alloc: Global, element: &Element) -> 
 /// Writes comments and attributes on their own lines, after this indentation.
 fn write_lines(out: &mut String, lines: &[Line], indent: &str) -> Written {
     for line in lines {
-        write_empty_line(out, line.is_apart)?;
-        write!(out, "{indent}{}\n", tokens::Written(line.tokens))?;
+        write!(out, "{indent}{}\n", tokens::Written(*line))?;
     }
     Ok(())
 }
 
-/// Writes an empty line, if the source has it, except as the first line of an enum.
-fn write_empty_line(out: &mut String, is_there: bool) -> Written {
-    match is_there && !out.as_str().ends_with("{\n") {
-        true => out.push('\n'),
-        false => Ok(()),
-    }
-}
-
 /// Writes a variant, with its discriminant if the enum has them.
 fn write_variant(out: &mut String, variant: &Variant, has_discriminant: bool) -> Written {
-    write_lines(out, &variant.attributes, "    ")?;
-    write_empty_line(out, variant.is_apart)?;
+    write_lines(out, &variant.lines, "    ")?;
     write!(out, "    {}", variant.name)?;
-    if let Some(given) = variant.discriminant.filter(|_| has_discriminant) {
-        write_discriminant(out, &given)?;
+    match variant.discriminant {
+        Discriminant::Given(given) if has_discriminant => write_discriminant(out, given)?,
+        _ => {}
     }
     out.push(',')?;
     for comment in &variant.comments {
@@ -69,13 +64,17 @@ fn write_variant(out: &mut String, variant: &Variant, has_discriminant: bool) ->
 }
 
 /// Writes a discriminant: its literal, or else its number.
-fn write_discriminant(out: &mut String, given: &Discriminant) -> Written {
+fn write_discriminant(out: &mut String, given: Given) -> Written {
+    let sign = if matches!(given.number, Number::Negative(_)) {
+        "-"
+    } else {
+        ""
+    };
     match (given.literal, given.number) {
-        (Some(literal), _) if given.has_minus => write!(out, " = -{literal}"),
-        (Some(literal), _) => write!(out, " = {literal}"),
-        (None, Number::Small(number)) => write!(out, " = {number}"),
-        // A byte is never so large, and a mask that does not fit in 128 bits is left out.
-        (None, _) => Ok(()),
+        (Some(literal), _) => write!(out, " = {sign}{literal}"),
+        (None, Number::Natural(number) | Number::Negative(number)) => {
+            write!(out, " = {sign}{number}")
+        }
     }
 }
 
@@ -87,8 +86,8 @@ fn write_derives(out: &mut String, alloc: Global, declaration: &EnumDeclaration)
         derives.extend(SUPERTRAITS)?;
     }
     for derive in &declaration.derives {
-        if !(is_full && SUPERTRAITS.contains(&derive.last())) {
-            derives.push(derive.path.as_str())?;
+        if !(is_full && SUPERTRAITS.contains(&derive.name)) {
+            derives.push(derive.path)?;
         }
     }
     match derives.is_empty() {

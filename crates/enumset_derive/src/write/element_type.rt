@@ -233,11 +233,11 @@ fn store_text(subject: &Subject) -> Written<StoreText> {
             return Ok(StoreText {
                 type_name: format!(in alloc; "u{}", integer.width())?,
                 model: number.to_string(alloc)?,
-                value: number.to_string(alloc)?,
+                value: format!(in alloc; "0x{number:X}")?,
             });
         }
     };
-    let words = all.iter().map(|word| format!(in alloc; "{word}, "));
+    let words = all.iter().map(|word| format!(in alloc; "0x{word:X}, "));
     let words: String = words.try_collect(alloc)?;
     let words = words.as_str().trim_end_matches(", ");
     Ok(StoreText {

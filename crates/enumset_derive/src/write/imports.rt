@@ -5,19 +5,15 @@ use crate::element::Element;
 use std::alloc::Global;
 use std::collections::BTreeSet;
 
-/// The imports of a module, from `enumset` and from the crates of its derives.
+/// The imports of a module from `enumset`.
 pub(super) fn imports_of(alloc: Global, elements: &[Element]) -> Text {
     let mut lines = String::new(alloc);
     let mut names: BTreeSet<&str> = BTreeSet::new(alloc);
-    let mut derives: BTreeSet<(&str, &str)> = BTreeSet::new(alloc);
     for element in elements {
         for (is_needed, path) in element.imports() {
             if is_needed {
                 names.insert(path)?;
             }
-        }
-        for derive in &element.declaration.derives {
-            derives.extend(derive.import)?;
         }
     }
     let facade = facade_of(elements);
@@ -27,9 +23,6 @@ pub(super) fn imports_of(alloc: Global, elements: &[Element]) -> Text {
     if !names.is_empty() {
         let names: Vec<&str> = names.into_iter().collect(alloc)?;
         write!(lines, "use {facade}::{{{}}};\n", names.join(alloc, ", ")?)?;
-    }
-    for (root, name) in &derives {
-        write!(lines, "use {root}::{name};\n")?;
     }
     Ok(lines)
 }

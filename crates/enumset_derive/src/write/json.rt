@@ -1,10 +1,10 @@
 //! Writes `to_json` and `from_json` for the sets of an element type.
 
 use super::layout::guard_of;
-use super::{Subject, Written};
+use super::names::unknown_of;
+use super::{Subject, Text, Written};
 use crate::plan::{Options, Plan, Store};
-use enumset_tokens::{IntegerType, Representation, Serialized};
-use std::alloc::Global;
+use enumset_source::{IntegerType, Representation, Serialized};
 
 const OF_NUMBERS: &str =
     "    ghost use Rattle.std.specs.Prelude.{◌≡◌, ◌↔◌, IsOk, IfOk, IfErr, IsTrue};
@@ -24,144 +24,134 @@ const LIST: &str = "array of the names of the set's members, in ascending order 
 
 const MAP: &str = "object that maps the name of each of the set's members to `true`";
 
-const NO_MEMORY: &str = ". The only fault is\n    /// [`set_json::JsonFault::OutOfMemory`].";
-
-const TO_JSON: &str = "\n    pub fn to_json(
-        alloc: std::alloc::Global,
-        set: &EnumSet<Self>,
-    ) -> std::result::Result<serde_json::Value, set_json::JsonFault>";
-
-/// The width of a set in JSON, if it is a number. It is at most 64, since JSON values do not have numbers of 128 bits.
-fn width_of(serialized: Serialized, plan: &Plan) -> Option<u32> {
-    match serialized {
-        Serialized::Bits(Representation::Integer(IntegerType::U128)) if plan.bit_width > 64 => None,
-        Serialized::Bits(Representation::Integer(integer)) => Some(integer.width().min(64)),
-        _ => None,
-    }
+/// What a set is in JSON.
+#[derive(Clone, Copy)]
+enum Form {
+    /// A number with this many bits, at most 64, since JSON values do not have numbers of 128 bits.
+    Number(u32),
+    Words,
+    List,
+    Map,
 }
 
-/// The form of sets in JSON, as text of a module.
-#[derive(Clone, Copy)]
-struct JsonForm {
+impl Form {
+    fn of(serialized: Serialized, plan: &Plan) -> Form {
+        match serialized {
+            Serialized::Bits(Representation::Integer(IntegerType::U128)) if plan.bit_width > 64 => {
+                Form::Words
+            }
+            Serialized::Bits(Representation::Integer(integer)) => {
+                Form::Number(integer.width().min(64))
+            }
+            Serialized::Bits(Representation::Words) => Form::Words,
+            Serialized::List => Form::List,
+            Serialized::Map => Form::Map,
+        }
+    }
+
     /// The part of the names of the functions and definitions.
-    name: &'static str,
+    fn name(self) -> &'static str {
+        match self {
+            Form::Number(_) => "number",
+            Form::Words => "words",
+            Form::List => "list",
+            Form::Map => "map",
+        }
+    }
+
     /// The imports of the contracts.
-    cited: &'static str,
+    fn cited(self) -> &'static str {
+        match self {
+            Form::Number(_) => OF_NUMBERS,
+            Form::Words => OF_WORDS,
+            Form::List | Form::Map => OF_NAMES,
+        }
+    }
+
     /// The path of the definitions after `Rattle.enumset.specs.`.
-    definitions: &'static str,
+    fn definitions(self) -> &'static str {
+        match self {
+            Form::Number(_) | Form::Words => "Json",
+            Form::List | Form::Map => NAMES,
+        }
+    }
+
     /// What a set is in JSON, for the doc comment.
-    doc: &'static str,
-    fault: &'static str,
-}
+    fn doc(self) -> &'static str {
+        match self {
+            Form::Number(_) => "set's number",
+            Form::Words => WORDS,
+            Form::List => LIST,
+            Form::Map => MAP,
+        }
+    }
 
-impl JsonForm {
-    fn of(serialized: Serialized, width: Option<u32>) -> JsonForm {
-        match (serialized, width) {
-            (_, Some(_)) => JsonForm {
-                name: "number",
-                cited: OF_NUMBERS,
-                definitions: "Json",
-                doc: "set's number",
-                fault: "TooWide",
-            },
-            (Serialized::Bits(_), None) => JsonForm {
-                name: "words",
-                cited: OF_WORDS,
-                definitions: "Json",
-                doc: WORDS,
-                fault: "OutOfMemory",
-            },
-            (Serialized::List, None) => JsonForm {
-                name: "list",
-                cited: OF_NAMES,
-                definitions: NAMES,
-                doc: LIST,
-                fault: "OutOfMemory",
-            },
-            (Serialized::Map, None) => JsonForm {
-                name: "map",
-                cited: OF_NAMES,
-                definitions: NAMES,
-                doc: MAP,
-                fault: "OutOfMemory",
-            },
+    fn fault(self) -> &'static str {
+        match self {
+            Form::Number(_) => "TooWide",
+            Form::Words | Form::List | Form::Map => "OutOfMemory",
+        }
+    }
+
+    /// The last argument of the function of `set_json`, after a comma.
+    fn argument(self, subject: &Subject) -> Text {
+        match self {
+            Form::Number(width) => format!(in subject.alloc; ", set_json::JsonWidth::U{width}"),
+            Form::Words | Form::List | Form::Map => Ok(String::new(subject.alloc)),
+        }
+    }
+
+    /// The arguments with which a contract reads a value.
+    fn read_by(self, subject: &Subject) -> Text {
+        let (alloc, own) = (subject.alloc, subject.name);
+        let elements = format!(in alloc; "⟦<{own} as EnumSetType>⟧.elements")?;
+        match self {
+            Form::Number(width) => format!(in alloc; "(valid_bits {elements}) {width}"),
+            Form::Words => format!(in alloc; "(valid_bits {elements})"),
+            Form::List | Form::Map => {
+                format!(in alloc; "(names_of {elements} ⟦<{own} as EnumSetNames>⟧.names)")
+            }
+        }
+    }
+
+    /// The arguments of the value of a set in a contract, after white space.
+    fn value(self, subject: &Subject) -> Text {
+        let alloc = subject.alloc;
+        let count = match &subject.element.plan.store {
+            Store::Integer(integer, _) => integer.width().div_ceil(64) as usize,
+            Store::Words(words) => words.len(),
+        };
+        match self {
+            Form::Number(_) => String::from_str(alloc, " (number set.now)"),
+            Form::Words => format!(in alloc; " (words set.now {count})"),
+            Form::List | Form::Map => {
+                let read_by = self.read_by(subject)?;
+                format!(in alloc; "\n            {read_by} set.now")
+            }
         }
     }
 }
 
-/// What `from_json` does with members that no variant has.
-#[derive(Clone, Copy)]
-struct UnknownForm {
-    variant: &'static str,
-    doc: &'static str,
-}
-
-impl UnknownForm {
-    fn of(options: &Options) -> UnknownForm {
-        match (options.denies_unknown, options.are_named()) {
-            (true, true) => UnknownForm {
-                variant: "Refuse",
-                doc: "A name that no variant has is a fault.",
-            },
-            (true, false) => UnknownForm {
-                variant: "Refuse",
-                doc: "A bit that no variant has is a fault.",
-            },
-            (false, true) => UnknownForm {
-                variant: "Drop",
-                doc: "Names that no variant has are left out.",
-            },
-            (false, false) => UnknownForm {
-                variant: "Drop",
-                doc: "Bits that no variant has are left out.",
-            },
-        }
+/// What `from_json` does at unknown bits and names, for the doc comment.
+fn unknown_doc(options: &Options) -> &'static str {
+    match (options.denies_unknown, options.are_named()) {
+        (true, true) => "A name that no variant has is a fault.",
+        (true, false) => "A bit that no variant has is a fault.",
+        (false, true) => "Names that no variant has are left out.",
+        (false, false) => "Bits that no variant has are left out.",
     }
-}
-
-/// The terms of the contracts for the value.
-#[derive(Drop)]
-struct JsonModel {
-    /// The arguments of the value of a set, after white space.
-    value: String,
-    /// The arguments with which `from_json` reads it.
-    read_by: String,
-}
-
-/// The terms of the contracts for the form with this name.
-fn model_of(subject: &Subject, name: &str, width: Option<u32>) -> Written<JsonModel> {
-    let (alloc, own) = (subject.alloc, subject.name);
-    let count = match &subject.element.plan.store {
-        Store::Integer(integer, _) => integer.width().div_ceil(64) as usize,
-        Store::Words(words) => words.len(),
-    };
-    let elements = format!(in alloc; "⟦<{own} as EnumSetType>⟧.elements")?;
-    let read_by = match width {
-        Some(width) => format!(in alloc; "(valid_bits {elements}) {width}")?,
-        None if name == "words" => format!(in alloc; "(valid_bits {elements})")?,
-        None => format!(in alloc; "(names_of {elements} ⟦<{own} as EnumSetNames>⟧.names)")?,
-    };
-    let value = match name {
-        "number" => String::from_str(alloc, " (number set.now)")?,
-        "words" => format!(in alloc; " (words set.now {count})")?,
-        _ => format!(in alloc; "\n            {read_by} set.now")?,
-    };
-    Ok(JsonModel { value, read_by })
 }
 
 /// Writes both functions. They name `Result` by its path, since the module may have a type with this name.
 pub(super) fn write_json(out: &mut String, subject: &Subject, serialized: Serialized) -> Written {
+    let form = Form::of(serialized, &subject.element.plan);
     let (own, guard) = (subject.name, guard_of(subject));
-    let width = width_of(serialized, &subject.element.plan);
-    let JsonForm {
-        name,
-        cited,
-        definitions,
-        doc,
-        fault,
-    } = JsonForm::of(serialized, width);
-    let unknown = UnknownForm::of(&subject.element.declaration.options);
-    let (unknown_doc, unknown) = (unknown.doc, unknown.variant);
+    let (name, cited, definitions, fault) = (
+        form.name(),
+        form.cited(),
+        form.definitions(),
+        form.fault(),
+    );
     write!(
         out,
         "\n\n{guard}impl {own} {{
@@ -169,32 +159,59 @@ pub(super) fn write_json(out: &mut String, subject: &Subject, serialized: Serial
     ghost use Rattle.serde_json.specs.View.{{view}};
     ghost use Rattle.enumset.specs.{definitions}.{{{name}_value, set_of_{name}}};
     ghost use Rattle.enumset.specs.declared.set_json.fault.JsonFault.TheVariants.{{{fault}}};
-    ghost use Rattle.enumset.specs.declared.set_json.unknown.Unknown.TheVariants as unknown;\n
-    /// The {doc}"
+    ghost use Rattle.enumset.specs.declared.set_json.unknown.Unknown.TheVariants as unknown;\n\n"
     )?;
-    match width {
-        Some(width) => write!(
+    write_to_json(out, subject, form)?;
+    write_from_json(out, subject, form)?;
+    out.push('}')
+}
+
+/// Writes `to_json`.
+fn write_to_json(out: &mut String, subject: &Subject, form: Form) -> Written {
+    let (name, fault) = (form.name(), form.fault());
+    write!(out, "    /// The {}", form.doc())?;
+    match form {
+        Form::Number(width) => write!(
             out,
             " as a `u{width}`.
     ///
-    /// The only fault is [`set_json::JsonFault::TooWide`], if a member is past its bits. It does not allocate.{TO_JSON}
-        ensures fits {{ IsOk result ↔ IsTrue (is_subset set.now (below {width})) }}"
+    /// The only fault is [`set_json::JsonFault::TooWide`], if a member is past its bits. It does not allocate."
         )?,
-        None => write!(out, "{NO_MEMORY}{TO_JSON}")?,
+        Form::Words | Form::List | Form::Map => {
+            out.push_str(". The only fault is\n    /// [`set_json::JsonFault::OutOfMemory`].")?;
+        }
     }
-    let JsonModel { value, read_by } = model_of(subject, name, width)?;
-    let argument = match width {
-        Some(width) => format!(in subject.alloc; ", set_json::JsonWidth::U{width}")?,
-        None => String::new(subject.alloc),
-    };
+    out.push_str(
+        "\n    pub fn to_json(
+        alloc: std::alloc::Global,
+        set: &EnumSet<Self>,
+    ) -> std::result::Result<serde_json::Value, set_json::JsonFault>",
+    )?;
+    if let Form::Number(width) = form {
+        write!(
+            out,
+            "\n        ensures fits {{ IsOk result ↔ IsTrue (is_subset set.now (below {width})) }}"
+        )?;
+    }
+    let (value, argument) = (form.value(subject)?, form.argument(subject)?);
     write!(
         out,
         "\n        ensures value {{ IfOk result (λ value. view value ≡ {name}_value{value}) }}
         ensures fault {{ IfErr result (λ fault. fault ≡ {fault}) }}
     {{
         set_json::to_{name}(alloc, set{argument})
-    }}\n
-    /// The set that `to_json` writes as this value. {unknown_doc}
+    }}\n\n"
+    )
+}
+
+/// Writes `from_json`.
+fn write_from_json(out: &mut String, subject: &Subject, form: Form) -> Written {
+    let options = &subject.element.declaration.options;
+    let (name, doc, unknown) = (form.name(), unknown_doc(options), unknown_of(options));
+    let (read_by, argument) = (form.read_by(subject)?, form.argument(subject)?);
+    write!(
+        out,
+        "    /// The set that `to_json` writes as this value. {doc}
     ///
     /// The faults are those of [`set_json::from_{name}`], in the same order. It does not allocate.
     pub fn from_json(
@@ -205,7 +222,6 @@ pub(super) fn write_json(out: &mut String, subject: &Subject, serialized: Serial
             unknown.{unknown} (view value.now) }}
     {{
         set_json::from_{name}(value{argument}, set_json::Unknown::{unknown})
-    }}
-}}"
+    }}\n"
     )
 }

@@ -70,7 +70,7 @@ pub(super) fn write_head(out: &mut String, subject: &Subject, above: &str, form:
 
 /// The attribute of each implementation of an enum that exists only for tests.
 pub(super) fn guard_of(subject: &Subject) -> &'static str {
-    match subject.element.declaration.is_for_tests {
+    match subject.element.declaration.head.is_for_tests {
         true => FOR_TESTS,
         false => "",
     }

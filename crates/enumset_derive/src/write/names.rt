@@ -3,6 +3,7 @@
 use super::layout::{list_of, list_of_names, write_call, write_head};
 use super::{Subject, Written};
 use crate::element::Element;
+use crate::plan::Options;
 use std::alloc::Global;
 
 /// The names of an enum's variants in JSON.
@@ -14,6 +15,14 @@ pub(super) fn json_names_of<'a>(alloc: Global, element: &'a Element) -> Written<
         names.push(given.map_or(variant.name, |json| json.as_str()))?;
     }
     Ok(names)
+}
+
+/// The variant of `Unknown` that reading JSON takes.
+pub(super) fn unknown_of(options: &Options) -> &'static str {
+    match options.denies_unknown {
+        true => "Refuse",
+        false => "Drop",
+    }
 }
 
 /// Writes the implementation of `EnumSetNames`.

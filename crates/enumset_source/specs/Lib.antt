@@ -1,0 +1,5 @@
+pub mod Literals
+pub mod Numbers
+pub mod OptionValues
+pub mod Sources
+pub mod Styles

@@ -1,0 +1,21 @@
+-- The text of a source, and places in it.
+--     written      the text of tokens, with the spaces before them
+--     place_after      the place after a character at a place
+--     place_text      the text for a place
+use Rattle.std.specs.Prelude.{ℕ, ◌+◌, ◌-◌, ◌^◌, ◌==◌, min, List, [], ◌∷◌, ◌++◌, codes, if◌then◌else◌}
+use Rattle.std.specs.Fmt.{decimal}
+use Rattle.enumset_source.specs.declared.place.Place.{Place}
+use Rattle.enumset_source.specs.declared.tokens.Token.{Token}
+
+abbrev pub written : List Token → List ℕ
+written [] = []
+written (t ∷ ts) = t.space.now ++ t.text.now ++ written ts
+
+-- 10 is the line feed; a number past the greatest `u32` stays there
+abbrev pub place_after : Place → ℕ → Place
+place_after place character =
+    if character == 10 then record { line = min (place.line + 1) (2 ^ 32 - 1); column = 1 }
+    else record { line = place.line; column = min (place.column + 1) (2 ^ 32 - 1) }
+
+abbrev pub place_text : Place → List ℕ
+place_text place = codes "line " ++ decimal place.line ++ codes ", column " ++ decimal place.column
