@@ -4,7 +4,9 @@
 --     Ends      the least and the greatest member, the list of the members, what `find` finds
 --     Counts      how many members
 --     Iteration      loops and chains over a set's iterator
+--     Numbers      numbers of sets: their order, and bits masked out of an integer
 pub mod Members
 pub mod Ends
 pub mod Counts
 pub mod Iteration
+pub mod Numbers

@@ -1,7 +1,7 @@
 -- Rules for a search, each proved, as those of `enumset_repr` are.
---     Counts      how many valid bits
 --     ManySets      unions and intersections of many sets
---     SetLaws      the rulesets for the root of a user's crate, and for a function with a chain or a loop
-pub mod Counts
+--     SetLaws      the rulesets for the root of a user's crate, and for a function with a chain
+--     ValidBits      which bits are valid, how many, and a sum over them
 pub mod ManySets
 pub mod SetLaws
+pub mod ValidBits

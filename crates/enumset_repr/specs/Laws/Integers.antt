@@ -7,7 +7,7 @@
 --     or_and_not      bits set and cleared at once
 -- In premises, `m ≡ 2 ^ low_zeros 128 m` says that m is a power of two. It computes for a literal number.
 -- The ruleset `on_integers` has what the calls of an integer need, and those of a representation in the low bits of an
--- integer. The ruleset `masks` has what a proof about the bits of a byte needs.
+-- integer.
 use Rattle.std.proofs.Common.{◌≡◌, ◌<◌, ◌≤◌, ℕ, suc, ◌+◌, ◌*◌, ◌/◌, ◌%◌, ◌^◌, ◌-◌, sym, ap, ◌∙◌, arith, true, not, refl, ◌==◌, IsTrue, nat_cmp, bit_and, bit_or, bit_xor, eqb-true, eq-eqb, subst, ◌↔◌}
 use Rattle.std.proofs.lemmas.Bool.Decides.{nat_tests}
 use Rattle.std.proofs.lemmas.Grind.{low_zeros}
@@ -24,7 +24,7 @@ use Rattle.enumset_repr.specs.Representations.{IsRepresentation, AreSetOperators
 use Rattle.enumset_repr.specs.Words.{word, with_word}
 use mir.Val.{bits as width_bits}
 use Rattle.enumset_repr.specs.Laws.Order.{compare_bits}
-use Rattle.enumset_repr.specs.Laws.Counting.{is_empty_difference, is_empty_intersection}
+use Rattle.enumset_repr.specs.Laws.Counting.{is_empty_difference}
 
 pub by_number : (width : ℕ) → IsRepresentation bits number (λ n. IsTrue (is_subset (bits n) (below width))) 0 width ((width + 63) / 64) (λ a b. a == b) nat_cmp
 by_number width = record {
@@ -133,5 +133,3 @@ or_and_not a b c m e p q r =
     let both = union_is_subset _ _ _ (bits_within a w (omega (arith, e, p))) (bits_within b w (omega (arith, e, q))) in
     let fits : bit_or a b < 2 ^ w = subst (λ n. n < 2 ^ w) (ap number (sym (bits_or a b)) ∙ number_bits _) (number_within _ w both) in
     and_not _ c m e (omega (arith, e, fits)) r ∙ ap (λ s. difference s (bits c)) (bits_or a b)
-
-pub ruleset masks = (masked_tells, and_not, or_and_not, bits_and, bits_or, bits_xor, bits_number, number_bits, bits_within, bits_is_empty, is_empty_intersection, is_disjoint_iff, intersection_within)

@@ -8,8 +8,7 @@
 --     max_superset, superset_max      the maximum of a set and a subset of it is the set
 --     min_subset, subset_min      the minimum of a set and a subset of it is the subset
 --     number_max, number_min      the number of the greater set, and of the lesser
--- The ruleset `orders` has the laws of `compare`. The ruleset `ordering` has the maximum and the minimum, that a proper
--- subset is less, and that a set compares as equal only with itself.
+-- The ruleset `orders` has the laws of `compare`.
 use Rattle.std.proofs.Common.{◌≡◌, ◌≢◌, ◌<◌, ℕ, suc, ◌+◌, ◌*◌, ◌/◌, ◌%◌, ◌^◌, true, false, cond, not, Option, Some, None, refl, sym, ap, subst, ◌∙◌, arith, true≢false, suc-mul, ◌↔◌, Ordering, Less, Equal, Greater, is_eq, nat_cmp, pow_pos, shr-shr, ◌⊎◌, inl, inr, Bool, min, max}
 use Rattle.std.proofs.lemmas.Bool.Decides.{nat_tests}
 use Rattle.std.proofs.lemmas.Nat.{shr_split, mod_below}
@@ -160,5 +159,3 @@ number_max s t = let order = compare_number t s in let back = compare_number s t
 
 pub number_min : (s t : BitSet) → number (ord_min compare s t) ≡ min (number s) (number t)
 number_min s t = let order = compare_number t s in let back = compare_number s t in grind (arith, nat_tests)
-
-pub ruleset ordering = (max_superset, superset_max, min_subset, subset_min, compare_subset, compare_itself, compare_same)

@@ -103,7 +103,9 @@ greatest_in s = (refl, by (greatest s) (greatest_tells s).1) where
   by None none = none
   by (Some m) some = some.0
 
-pub ascending_first_is : (s : BitSet) → (ascending s ≡ ascending s) × (least s ≡ first (ascending s))
+-- only where `least` is in sight: a set's iterator shows its list, and the least member would be one more number at which
+-- each set is read
+pub ascending_first_is : (s : BitSet) → (least s ≡ least s) × (least s ≡ first (ascending s))
 unfolding least
 ascending_first_is s = (refl, refl)
 

@@ -4,6 +4,7 @@
 --     some_member, differing      a number that decides whether a set is empty;  whether two sets are the same
 --     at, .._once      what `contains` returns for each set, at a number in sight
 --     .._each, .._not      what a test says of each number in sight, or of the number that decides it
+--     insert_in, insert_not_empty      a number that is inserted is a member;  the set is then not empty
 -- How a goal is proved. What asks for a number brings it into sight: `same_set`, `contains_is_subset` and
 -- `contains_is_disjoint` any number, since they end in what is to be proved; an `is_empty` or `is_same` that is false
 -- the number that decides it. What is known to hold for all numbers, like that a set is a subset of another, is then
@@ -21,7 +22,11 @@
 --     a law that makes a witness of `is_subset s t ≡ false`, for the same reason:  `contains_is_subset` does its work,
 --         and so does `contains_is_disjoint`
 --     a law that counts wherever `is_subset` or `is_disjoint` occurs, since it makes terms at each of them:  see
---         `counts_of_parts` of `Counts`
+--         `len_of_part` of `Counts`
+-- Named variants. By `insert_in` each number that is inserted comes into sight, and each set is read there: with six
+-- named variants the search gave up. Goals about their sets are mostly decided at a number of their own, so the ruleset
+-- of a crate's root has, in its place, `insert_not_empty`, and two rules that bring these numbers into sight where a set
+-- may be empty, or two may be disjoint.
 -- `union_only` and `difference_only` are here since a goal like `result ≡ Some (insert s b)` is not an equation between
 -- sets.
 use Rattle.std.proofs.Common.{◌≡◌, ◌↔◌, ℕ, Bool, true, false, arith, List, [], ◌∷◌, get_or, refl, sym, ap, ◌∙◌, not, ◌&&◌, ◌||◌, true≢false, ◌==◌, nat_lt}
@@ -132,4 +137,23 @@ subset_each s t q = (refl, refl, λ sub h. is_subset_contains s t sub q h)
 pub disjoint_each : (s t : BitSet) (q : ℕ) → (is_disjoint s t ≡ is_disjoint s t) × (contains t q ≡ contains t q) × (is_disjoint s t ≡ true → contains s q ≡ true → contains t q ≡ false)
 disjoint_each s t q = (refl, refl, λ apart h. is_disjoint_contains s t apart q h)
 
-pub ruleset decided = (at_each, empty_once, union_once, intersection_once, difference_once, symmetric_difference_once, insert_once, remove_once, retain_once, below_once, low_once, contains_from_list, insert_in, union_only, difference_only, nat_tests, same_set, subset_each, disjoint_each, contains_is_subset, contains_is_disjoint, empty_of, empty_not, same_not, same_each)
+-- each set in sight at each number in sight
+pub ruleset read_at_each = (at_each, empty_once, union_once, intersection_once, difference_once, symmetric_difference_once, insert_once, remove_once, retain_once, below_once, low_once, contains_from_list)
+
+-- what is known of sets, at each number in sight
+pub ruleset told_at_each = (union_only, difference_only, nat_tests, same_set, subset_each, disjoint_each, contains_is_subset, contains_is_disjoint, empty_of, empty_not, same_not, same_each)
+
+pub ruleset decided = (read_at_each, insert_in, told_at_each)
+
+-- ---- the same for code that names many variants
+
+pub insert_not_empty : (s : BitSet) (b : ℕ) → (insert s b ≡ insert s b) × (insert s b ≡ empty → true ≡ false)
+insert_not_empty s b = (refl, λ none. sym (insert_in s b).1 ∙ ap (λ u. contains u b) none ∙ contains_empty b)
+
+pub insert_in_empty : (s : BitSet) (b : ℕ) (u : BitSet) → (insert s b ≡ insert s b) × (is_empty u ≡ is_empty u) × (contains (insert s b) b ≡ true)
+insert_in_empty s b u = (refl, refl, (insert_in s b).1)
+
+pub insert_in_disjoint : (s : BitSet) (b : ℕ) (t u : BitSet) → (insert s b ≡ insert s b) × (is_disjoint t u ≡ is_disjoint t u) × (contains (insert s b) b ≡ true)
+insert_in_disjoint s b t u = (refl, refl, (insert_in s b).1)
+
+pub ruleset decided_of_named = (read_at_each, insert_not_empty, insert_in_empty, insert_in_disjoint, told_at_each)

@@ -2,16 +2,12 @@
 --     fewer_left, fewer_left_than      fewer valid bits are left after a set gets a member that it lacks, or the
 --         members of a set that has such a member
 -- The ruleset `fewer` has both, for the measure of a loop that goes on until nothing changes.
-use Rattle.std.proofs.Common.{◌≡◌, ◌<◌, ◌≤◌, ℕ, Bool, true, false, true≢false, length, arith, refl, sym, ap, ◌∙◌}
+use Rattle.std.proofs.Common.{◌≡◌, ◌<◌, ℕ, true, false, true≢false, arith, sym, ap, ◌∙◌}
 use Rattle.std.proofs.lemmas.Bool.{false_from_ne_true}
 use Rattle.enumset_repr.specs.BitSet.{BitSet, contains, insert, remove, union, difference, is_subset, len}
-use Rattle.enumset_repr.specs.Rules.Counts.{counted}
-use Rattle.enumset_repr.specs.Laws.Counting.{len_subset, len_proper, len_removed}
+use Rattle.enumset_repr.specs.Laws.Counting.{len_proper, len_removed}
 use Rattle.enumset_repr.specs.Rules.Members.{decided}
 use Rattle.enumset_repr.specs.Laws.Members.{members, is_subset_contains, contains_is_subset, is_same_iff}
-use Rattle.enumset_repr.specs.Number.{is_distinct}
-use Rattle.enumset_sets.specs.Elements.{Elements, valid_bits}
-use Rattle.enumset_sets.specs.Laws.Elements.{len-from_list}
 
 pub fewer_left : (all s : BitSet) (b : ℕ) → contains all b ≡ true → contains s b ≡ false → len (difference all (insert s b)) < len (difference all s)
 fewer_left all s b valid lacks =

@@ -18,7 +18,7 @@ use Rattle.enumset_repr.specs.BitSet.{BitSet, is_in, contains, ascending, union,
 use Rattle.enumset_repr.specs.Laws.Algebra.{union_empty, union_assoc, union_left, union_right, is_subset_trans}
 use Rattle.enumset_repr.specs.Laws.Iteration.{all_not_any}
 use Rattle.enumset_repr.specs.Laws.Lattice.{is_disjoint_union}
-use Rattle.enumset_repr.specs.Rules.Members.{at, decided}
+use Rattle.enumset_repr.specs.Rules.Members.{decided}
 use Rattle.enumset_repr.specs.Laws.Members.{members, same_set, contains_from_list, contains_empty, contains_union, contains_ascending, is_subset_contains, empty_is_subset, union_is_subset}
 use Rattle.enumset_repr.specs.Laws.Sets.{is_subset_union}
 use Rattle.enumset_sets.specs.Folds.{union_all, intersection_all}

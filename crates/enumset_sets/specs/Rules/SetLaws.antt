@@ -1,23 +1,19 @@
 -- The rulesets for code over sets.
 --     set_laws      for the root of a crate: equations, inclusions, disjointness, emptiness, sameness and membership of
---         sets, first and last members, counts, unions and intersections of many sets, the order, numbers, bits of
---         variants
+--         sets, first and last members, counts and sums, tests of the list of the members, unions and intersections of
+--         many sets, the order, numbers and masks, bits of variants
 --     chains      for a function with a chain of iterators
---     loops      for a function with a loop
 -- `#![tactic(auto, using(enumset_sets::specs::Rules::SetLaws::set_laws))]`
 -- `Rules/Members.antt` of `enumset_repr` says how `set_laws` proves a goal, and what must not be in it.
 use Rattle.enumset_repr.specs.Rules.Counts.{counts}
 use Rattle.enumset_repr.specs.Rules.Ends.{ends}
-use Rattle.enumset_repr.specs.Rules.Iteration as steps
+use Rattle.enumset_repr.specs.Rules.Iteration.{listed}
 pub use Rattle.enumset_repr.specs.Rules.Iteration.{chains}
-use Rattle.enumset_repr.specs.Rules.Members.{decided}
+use Rattle.enumset_repr.specs.Rules.Members.{decided_of_named}
+use Rattle.enumset_repr.specs.Rules.Numbers.{ordering, masks}
 use Rattle.enumset_repr.specs.Laws.Numbers.{bits_number, number_bits, bits_within, number_within}
-use Rattle.enumset_repr.specs.Laws.Order.{ordering}
-use Rattle.enumset_sets.specs.Laws.Counts.{fewer}
-use Rattle.enumset_sets.specs.Rules.Counts.{valid_counts}
 use Rattle.enumset_sets.specs.Laws.Elements.{bits_of_variants}
 use Rattle.enumset_sets.specs.Rules.ManySets.{folds_once}
+use Rattle.enumset_sets.specs.Rules.ValidBits.{of_valid_bits}
 
-pub ruleset set_laws = (decided, ends, counts, folds_once, ordering, bits_number, number_bits, bits_within, number_within, bits_of_variants, valid_counts)
-
-pub ruleset loops = (steps.loops, fewer)
+pub ruleset set_laws = (decided_of_named, ends, counts, listed, folds_once, ordering, masks, bits_number, number_bits, bits_within, number_within, bits_of_variants, of_valid_bits)

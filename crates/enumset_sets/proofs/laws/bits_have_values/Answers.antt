@@ -1,6 +1,6 @@
 use Rattle.std.proofs.Common.{ap, sym, ◌∙◌}
 use Rattle.std.proofs.lemmas.Iterator.Consumers.{YieldsList-end}
-use Rattle.enumset_repr.specs.BitSet.{is_in, contains, ascending}
+use Rattle.enumset_repr.specs.BitSet.{is_in, contains}
 use Rattle.enumset_repr.specs.Laws.Members.{contains_ascending}
 use Rattle.enumset_sets.specs.Laws.Elements.{has_value, is_valid_bit, some_value, all_values}
 use Rattle.enumset_sets.specs.Laws.Iterators.{of_bits}
