@@ -70,7 +70,7 @@ pub mod set_json;
 mod set_macros;
 
 pub use enumset_sets::{
-    EnumSet, EnumSetIter, EnumSetType, EnumSetTypeWithRepr, fixed_points, fixed_points_of_many,
-    variants,
+    EnumSet, EnumSetFilter, EnumSetIter, EnumSetType, EnumSetTypeWithRepr, fixed_points,
+    fixed_points_of_many, variants,
 };
 pub use names::EnumSetNames;

@@ -1,3 +1,6 @@
 pub mod Lists
 pub mod EndMembers
 pub mod Retain
+pub mod Calls
+pub mod Left
+pub mod Filters

@@ -1,10 +1,14 @@
 -- `retain` leaves a subset of the set, and with a test it leaves the members that pass.
-use Rattle.std.proofs.Common.{◌≡◌, ◌==◌, ℕ, Bool, true, false, cond, not, ◌&&◌, ◌||◌, List, [], ◌∷◌, map, refl, sym, ap, subst, ◌∙◌, arith}
+use Rattle.std.proofs.Common.{◌≡◌, ◌==◌, ℕ, suc, Bool, true, false, cond, not, ◌&&◌, ◌||◌, List, [], ◌∷◌, map, refl, sym, ap, subst, ◌∙◌, arith, eqb-true, true≢false}
 use Rattle.std.proofs.lemmas.Bool.Decides.{nat_tests}
 use Rattle.std.specs.Fn.{Mut, Called}
 use Rattle.std.specs.List.{FoldsTo}
 use Rattle.enumset_repr.specs.BitSet.{BitSet, is_in, contains, remove, retain, is_subset}
 use Rattle.enumset_repr.specs.Laws.Members.{contains_is_subset, same_set, contains_remove, contains_retain, contains_ascending}
+use Rattle.std.specs.Iterator.Runs.{CallKeepsClosure}
+use Rattle.enumset_repr.specs.BitSet.{ascending}
+use Rattle.enumset_repr.specs.Laws.Ascending.{AscendsFrom, ascending_ascends, is_in_from, is_in_below}
+use Rattle.enumset_sets.specs.Calls.{Selects}
 use Rattle.enumset_sets.specs.Retain.{Keeps, Retains, IsConstantTest, IsTest}
 
 one_kept : (s t : BitSet) (b : Bool) (m q : ℕ) → t ≡ cond b s (remove s m) → contains t q ≡ (contains s q && (not (q == m) || b))
@@ -47,3 +51,37 @@ module _ {T F : Type 0} (bit : T → ℕ) (g : Mut F (T × Unit {0}) Bool) (f : 
 
   pub kept_by_test : IsTest bit g p → t ≡ retain s p
   kept_by_test test = kept bit g p (λ _. Unit {0}) (λ x h b h' same call. (test x h b h' call, tt)) f s t tt calls
+
+-- what each call returned, where no call changes the closure
+module _ {T F : Type 0} (bit : T → ℕ) (g : Mut F (T × Unit {0}) Bool) (f : F) (keeps : CallKeepsClosure g f) where
+  abbrev CalledWith : ℕ → Bool → Type 0
+  CalledWith q b = (t : T) × (bit t ≡ q) × Called g f (t, tt) b f
+
+  each_call : (k : ℕ) (xs : List T) (u v : F × BitSet) → u.0 ≡ f → AscendsFrom k (map bit xs) → ((q : ℕ) → is_in q (map bit xs) ≡ true → contains u.1 q ≡ true) → FoldsTo (Keeps bit g) u xs v → ((q : ℕ) → is_in q (map bit xs) ≡ false → contains v.1 q ≡ contains u.1 q) × ((q : ℕ) → is_in q (map bit xs) ≡ true → CalledWith q (contains v.1 q))
+  each_call k [] u v begun ascends inside same = (λ q none. ap (λ w. contains w.1 q) (sym same), λ q one. absurd (true≢false (sym one)))
+  each_call k (x ∷ xs) u v begun ascends inside calls =
+      let b = calls.1.0 in
+      let call : Called g f (x, tt) b calls.0.0 = subst (λ h. Called g h (x, tt) b calls.0.0) begun calls.1.1 in
+      let same : calls.0.0 ≡ f = keeps (x, tt) b calls.0.0 call in
+      let at : (q : ℕ) → contains calls.0.1 q ≡ (contains u.1 q && (not (q == bit x) || b)) = λ q. one_kept u.1 calls.0.1 b (bit x) q calls.1.2 in
+      let from : (q : ℕ) → is_in q (map bit xs) ≡ true → (q == bit x) ≡ false = λ q one. let above = is_in_from (suc (bit x)) q (map bit xs) ascends.1 one in grind (arith, nat_tests) in
+      let later = each_call (suc (bit x)) xs calls.0 v same ascends.1 (λ q one. let apart = from q one in let here = inside q in let next = at q in grind (arith, nat_tests)) calls.2 in (
+        (λ q none. let rest = later.0 q in let next = at q in grind (arith, nat_tests)),
+        λ q. elim (q == bit x) as (λ t. (q == bit x) ≡ t → (t || is_in q (map bit xs)) ≡ true → CalledWith q (contains v.1 q)) [
+          | true ↦ λ e _.
+              let is = eqb-true q (bit x) e in
+              let last : is_in q (map bit xs) ≡ false = is_in_below (suc (bit x)) q (map bit xs) ascends.1 (omega (arith, is)) in
+              let rest = later.0 q last in
+              let next = at q in
+              let here = inside q in
+              subst (CalledWith q) (grind (arith, nat_tests)) (x, sym is, subst (λ h. Called g f (x, tt) b h) same call)
+          | false ↦ λ _ one. later.1 q one
+        ] refl,
+      )
+
+  pub selected : (s t : BitSet) → Retains bit g f s t → Selects bit (λ t b. Called g f (t, tt) b f) s t
+  selected s t calls =
+      let list : map bit calls.1.0 ≡ ascending s = calls.1.1 in
+      let inside : (q : ℕ) → is_in q (map bit calls.1.0) ≡ contains s q = λ q. ap (is_in q) list ∙ sym (contains_ascending s q) in
+      let each = each_call 0 calls.1.0 (f, s) (calls.0, t) refl (subst (AscendsFrom 0) (sym list) (ascending_ascends s)) (λ q one. sym (inside q) ∙ one) calls.1.2 in
+      (left bit g f s t calls, λ q one. each.1 q (inside q ∙ one))

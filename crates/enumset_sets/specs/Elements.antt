@@ -7,8 +7,11 @@
 --     in_order      the same elements as `in_place`, with the list 0, 1, 2 and so on
 --     one_past      one past a number, or 0 if there is none
 --     one_past_greatest      one past the greatest member, or 0 for the empty set
+--     IsWidthOf, IsCountOf      whether a number is one past the greatest member of a set;  whether it is the number of
+--         members
 --     IsElementType      the laws of an element type
 --     AreBitsOf      each number of a list is in the list of the variants' bits
+--     AreLeft      the numbers of a list ascend, and each is in the list of the variants' bits
 -- The toolchain's logic defines `tag_of D v`, the place of v's variant in the declaration, counted from 0, and
 -- `rowss D.parts`, the list of the variants. A search does not unfold `valid_bits`, `listed_bit` and `place`: it would
 -- try each bit of the list, and each variant that a variable can be. `Laws/Elements.antt` has their laws.
@@ -17,6 +20,7 @@ use Rattle.std.specs.List.{list_all, range_with_len}
 use denote.Enum.Declared.{Declared, rowss, tag_of}
 use Rattle.enumset_repr.specs.BitSet.{BitSet, is_in, contains, from_list, len}
 use Rattle.enumset_repr.specs.Ends.{greatest}
+use Rattle.enumset_repr.specs.Laws.Ascending.{AscendsFrom}
 use Rattle.enumset_repr.specs.Number.{is_distinct}
 
 -- the bit of each value, and the list of the valid bits, one for each variant
@@ -54,6 +58,14 @@ one_past (Some b) = suc b
 abbrev pub one_past_greatest : BitSet → ℕ
 one_past_greatest s = one_past (greatest s)
 
+-- one past the greatest member is the width;  the count is the number of members.  A search would otherwise look up each
+-- set at the greatest valid bit, in each function over any element type.
+unfoldable pub IsWidthOf : BitSet → ℕ → Type 0
+IsWidthOf s width = width ≡ one_past_greatest s
+
+unfoldable pub IsCountOf : BitSet → ℕ → Type 0
+IsCountOf s count = count ≡ len s
+
 -- The laws of an element type with these elements and this `==`. `all` is the set of ALL_BITS, `width` is BIT_WIDTH and
 -- `count` is VARIANT_COUNT.
 pub record IsElementType {T : Type 0} (elements : Elements T) (eq : T → T → Bool) (all : BitSet) (width count : ℕ) : Type 0 where
@@ -66,9 +78,14 @@ pub record IsElementType {T : Type 0} (elements : Elements T) (eq : T → T → 
   pub bit_tells : (v w : T) → elements.bit v ≡ elements.bit w → v ≡ w
   pub eq_tells : (v w : T) → IsTrue (eq v w) ↔ (elements.bit v ≡ elements.bit w)
   -- the width is one past the greatest valid bit, and the count is the number of valid bits
-  pub width_is : width ≡ one_past_greatest all
-  pub count_is : count ≡ len all
+  pub width_is : IsWidthOf all width
+  pub count_is : IsCountOf all count
 
 -- each number of the first list is in the second
 abbrev pub AreBitsOf : List ℕ → List ℕ → Type 0
 AreBitsOf bs bit_list = IsTrue (list_all (λ b. is_in b bit_list) bs)
+
+-- what an iterator may have left
+pub record AreLeft (bs bit_list : List ℕ) : Type 0 where
+  pub ascends : AscendsFrom 0 bs
+  pub valid : AreBitsOf bs bit_list

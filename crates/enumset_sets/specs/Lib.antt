@@ -10,3 +10,4 @@ pub mod Retain
 pub mod Sets
 pub mod Texts
 pub mod Variants
+pub mod Calls

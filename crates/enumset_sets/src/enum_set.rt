@@ -2,11 +2,13 @@
 
 ghost use Rattle.std.specs.Prelude.{◌≡◌, ◌<◌, ◌≤◌, ◌&&◌, ◌^◌, ℕ, Bool, IsTrue, IfNone, IfSome, false, if◌then◌else◌, nat_le, not, length};
 ghost use Rattle.std.specs.Iterator.{YieldsFirstBy, YieldsLastBy};
-ghost use Rattle.std.specs.Iterator.Runs.{EveryRun, ItemsMapTo};
+ghost use Rattle.std.specs.Fn.{Called};
+ghost use Rattle.std.specs.Iterator.Runs.{EveryRun, ItemsMapTo, CallKeepsClosure};
 ghost use Rattle.std.specs.Option.{option_map};
 ghost use Rattle.enumset_repr.specs.BitSet as set;
 ghost use Rattle.enumset_repr.specs.Ends.{least, greatest};
 ghost use Rattle.enumset_repr.specs.Number.{bits};
+ghost use Rattle.enumset_sets.specs.Calls.{Selects};
 ghost use Rattle.enumset_sets.specs.Elements.{one_past_greatest, valid_bits};
 ghost use Rattle.enumset_sets.specs.Retain.{IsConstantTest, IsTest, Retains, RetainsTo};
 
@@ -209,6 +211,7 @@ impl<T: EnumSetType> EnumSet<T> {
     }
 
     /// Returns one past the greatest valid bit, or 0 if there is none.
+    #[tactic(auto, unfolding(crate::specs::Elements::IsWidthOf))]
     pub fn bit_width() -> u32
         ensures { result ≡ one_past_greatest (valid_bits T.elements) }
     {
@@ -216,6 +219,7 @@ impl<T: EnumSetType> EnumSet<T> {
     }
 
     /// Returns the number of valid bits, which is the number of variants.
+    #[tactic(auto, unfolding(crate::specs::Elements::IsCountOf))]
     pub fn variant_count() -> u32
         ensures { result ≡ set.len (valid_bits T.elements) }
     {
@@ -386,6 +390,7 @@ impl<T: EnumSetType> EnumSet<T> {
     /// not affect it. Each member of the set is a valid bit.
     pub fn iter(&self) -> EnumSetIter<T>
         ensures ascending { result.items ≡ set.ascending self.now }
+        ensures members { set.from_list result.items ≡ self.now }
         ensures asks { result.asks ≡ 0 }
         ensures span { result.span ≤ T.Repr.PREFERRED_ARRAY_LEN }
         ensures valid { IsTrue (set.is_subset self.now (valid_bits T.elements)) }
@@ -527,6 +532,7 @@ impl<T: EnumSetType> EnumSet<T> {
     /// Takes out the element with the least bit and returns it, or returns `None` if the set is empty.
     pub fn pop_first(&mut self) -> Option<T>
         ensures first { YieldsFirstBy T.elements.bit set.ascending self.old result self.new }
+        ensures least { option_map T.elements.bit result ≡ least self.old }
         ensures removed { IfSome result (λ t. self.new ≡ set.remove self.old (T.elements.bit t)) }
         ensures put_back { IfSome result (λ t. self.old ≡ set.insert self.new (T.elements.bit t)) }
         ensures fewer { IfSome result (λ _. set.len self.new < set.len self.old) }
@@ -540,6 +546,7 @@ impl<T: EnumSetType> EnumSet<T> {
     /// Takes out the element with the greatest bit and returns it, or returns `None` if the set is empty.
     pub fn pop_last(&mut self) -> Option<T>
         ensures last { YieldsLastBy T.elements.bit set.ascending self.old result self.new }
+        ensures greatest { option_map T.elements.bit result ≡ greatest self.old }
         ensures removed { IfSome result (λ t. self.new ≡ set.remove self.old (T.elements.bit t)) }
         ensures put_back { IfSome result (λ t. self.old ≡ set.insert self.new (T.elements.bit t)) }
         ensures fewer { IfSome result (λ _. set.len self.new < set.len self.old) }
@@ -562,6 +569,8 @@ impl<T: EnumSetType> EnumSet<T> {
         requires { F.IsAlwaysCallable keep }
         ensures calls { Retains T.elements.bit F.FnMut keep self.old self.new }
         ensures left { IsTrue (set.is_subset self.new self.old) }
+        ensures selected { CallKeepsClosure F.FnMut keep
+            → Selects T.elements.bit (λ t b. Called F.FnMut keep (t, tt) b keep) self.old self.new }
         ensures kept { (p : ℕ → Bool) → IsTest T.elements.bit F.FnMut p → self.new ≡ set.retain self.old p }
         ensures kept_unchanged { (p : ℕ → Bool) → IsConstantTest T.elements.bit F.FnMut keep p
             → self.new ≡ set.retain self.old p }

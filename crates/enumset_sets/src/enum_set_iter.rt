@@ -1,12 +1,14 @@
 //! The iterator over a set's elements.
 
-ghost use Rattle.std.specs.Prelude.{◌≡◌, length, IsTrue};
+ghost use Rattle.std.specs.Prelude.{◌≡◌, ◌<◌, ◌^◌, length, IsTrue};
 ghost use Rattle.std.specs.Iterator.{YieldsFirstBy, YieldsLastBy, item_count};
 ghost use Rattle.enumset_repr.specs.Asks.{BoundsAsks, IsFresh};
 ghost use Rattle.enumset_repr.specs.BitSet as set;
+ghost use Rattle.enumset_repr.specs.Laws.Ascending.{AscendsFrom};
 ghost use Rattle.enumset_sets.specs.Elements.{valid_bits};
 
 use crate::element::EnumSetType;
+use crate::raw::learn_valid_bits;
 use enumset_repr::EnumSetTypeRepr;
 use std::alloc::AllocError;
 use std::fmt;
@@ -24,13 +26,13 @@ pub struct EnumSetIter<T: EnumSetType> {
 
 impl<T: EnumSetType> Model for EnumSetIter<T> {
     ghost use Rattle.enumset_repr.specs.Asks.{IterView};
-    ghost use Rattle.enumset_sets.specs.Elements.{AreBitsOf};
+    ghost use Rattle.enumset_sets.specs.Elements.{AreLeft};
 
     ghost Value = { IterView };
 
     ghost view = { λ i. record { items = T.Repr.rest i.iter; asks = T.Repr.asks i.iter; span = T.Repr.span i.iter } };
 
-    ghost invariant = { λ i. AreBitsOf (T.Repr.rest i.iter) T.elements.bit_list };
+    ghost invariant = { λ i. AreLeft (T.Repr.rest i.iter) T.elements.bit_list };
 }
 
 impl<T: EnumSetType> Drop for EnumSetIter<T> {
@@ -46,6 +48,17 @@ impl<T: EnumSetType> EnumSetIter<T> {
         ensures { IsFresh (set.ascending (T.Repr.members repr)) T.Repr.PREFERRED_ARRAY_LEN result }
     {
         EnumSetIter { iter: repr.iter() }
+    }
+
+    /// Tells the proof that the bits left ascend, and that they are fewer than 2^32. It does nothing at run time.
+    #[inline]
+    pub(crate) fn learn_left(&self)
+        ensures ascends { AscendsFrom 0 self.now.items }
+        ensures fits { length self.now.items < 2 ^ 32 }
+    {
+        learn_valid_bits::<T>();
+        // The proof learns the invariant of the type from a read.
+        let _iter = &self.iter;
     }
 }
 

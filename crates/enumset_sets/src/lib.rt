@@ -4,9 +4,11 @@
 //! them. Contracts see a set as the finite set of its members' bit numbers.
 #![tactic(auto)]
 
+mod chains;
 pub mod element;
 mod element_operators;
 pub mod enum_set;
+mod enum_set_filter;
 pub mod enum_set_iter;
 pub mod fixed_points;
 pub mod fixed_points_of_many;
@@ -24,5 +26,6 @@ mod words;
 
 pub use element::EnumSetType;
 pub use enum_set::EnumSet;
+pub use enum_set_filter::EnumSetFilter;
 pub use enum_set_iter::EnumSetIter;
 pub use with_repr::EnumSetTypeWithRepr;

@@ -1,5 +1,6 @@
 //! Tests of sets and mixed sets at the worked types: here the calls of a set that no command makes, at `letters`.
 
+mod chains;
 mod conversions;
 mod far_bits;
 mod hashes;

@@ -32,7 +32,7 @@ use Rattle.enumset_repr.specs.Laws.Members.{contains_empty, contains_insert, con
 use Rattle.enumset_repr.specs.Number.{bits, is_distinct}
 use Rattle.enumset_repr.specs.Words.{bits_of, lists_words}
 pub use Rattle.enumset_sets.specs.Elements.{with_bits, in_order, in_place}
-use Rattle.enumset_sets.specs.Elements.{Elements, valid_bits, listed_bit, place, one_past, one_past_greatest, IsElementType, AreBitsOf}
+use Rattle.enumset_sets.specs.Elements.{Elements, valid_bits, listed_bit, place, one_past, one_past_greatest, IsWidthOf, IsCountOf, IsElementType, AreBitsOf}
 
 -- ---- lists of numbers
 
@@ -133,7 +133,7 @@ IsLawful-passes D bs valid fault width count none test =
     record { variants = eqb-true _ _ a.0; distinct = b.0; is_valid = c.0; width_is = eqb-true _ _ d.0; count_is = eqb-true _ _ e.0; bare = e.1 }
 
 laws : (D : Declared) (bs : List ℕ) (test : Bool) (all : BitSet) (width count : ℕ) → all ≡ from_list bs → Passes D bs test width count → IsElementType (with_bits D bs) (derived_eq D) all width count
-unfolding valid_bits
+unfolding valid_bits IsWidthOf IsCountOf
 laws D bs test all width count valid p =
     let tells = bit-tells D p.bare bs p.variants p.distinct in
     record {

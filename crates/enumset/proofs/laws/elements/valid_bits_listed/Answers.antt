@@ -1,10 +1,11 @@
 use Rattle.std.proofs.Common.{sym, ap, ◌∙◌}
 use Rattle.enumset_repr.specs.BitSet.{len}
-use Rattle.enumset_sets.specs.Elements.{one_past_greatest}
+use Rattle.enumset_sets.specs.Elements.{IsWidthOf, IsCountOf, one_past_greatest}
 use Rattle.enumset_sets.specs.Laws.Elements.{is_valid_bit}
 use Rattle.enumset.proofs.laws.elements.valid_bits_listed.Goals as goal
 
 pub returns : goal.returns
+unfolding IsWidthOf IsCountOf
 returns g c =
     let lawful = g.met.T.EnumSetType.lawful in
     record {

@@ -1,0 +1,5 @@
+use Rattle.enumset_sets.proofs.Calls.{collected}
+use Rattle.enumset_sets.proofs.enum_set_iter.EnumSetIter.collect.Goals as goal
+
+pub returns-clause-elements : goal.returns-clause-elements
+returns-clause-elements g c = collected _ _ _ _ _ c.collect.ensures.ran

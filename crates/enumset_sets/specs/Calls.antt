@@ -1,0 +1,60 @@
+-- What the calls of a closure for the elements of a set returned. `call t b` says that a call for t returns b.
+--     EachGives      for each member there is an element with this bit, and a call for it returns b
+--     OneGives      there is a member, an element with this bit, and a call for it that returns b
+--     Selects      the second set has the members of the first for which a call returns true
+--     AllCalls, AnyCalls, FindCalls, PositionCalls      the calls that `all` and its like make, in std's words
+--     FilterCounts, FilterCollects      the elements that `count` and `collect` after a filter take
+--     FilterRuns      which run of a set's iterator stands behind each run of a filter
+--     IsLenOf      a number is how many members a set has, and so each set with the same members
+use Rattle.std.specs.Prelude.{◌≡◌, ℕ, Bool, true, IsTrue}
+use Rattle.std.specs.Prelude.{List, Option, Result, IfOk, length}
+use Rattle.std.specs.Fn.{Mut}
+use Rattle.std.specs.Iterator.{ChecksAll, ChecksAny, FindsItem, FindsPosition, Drains, DrainsIf}
+use Rattle.std.specs.Iterator.Adapters.{filter_steps}
+use Rattle.std.specs.Iterator.Runs.{EachRunFrom, SomeRun, IsFilterRun}
+use Rattle.std.specs.declared.iter.Filter.{Filter}
+use denote.Ref.{Bor}
+use Rattle.enumset_repr.specs.Asks.{IterView}
+use Rattle.enumset_repr.specs.BitSet.{BitSet, contains, is_subset, len}
+use Rattle.enumset_sets.specs.Laws.Iterators.{steps_by}
+
+abbrev pub EachGives : {T : Type 0} → (T → ℕ) → (T → Bool → Type 0) → BitSet → Bool → Type 0
+EachGives {T} bit call s b = (q : ℕ) → contains s q ≡ true → (t : T) × (bit t ≡ q) × call t b
+
+abbrev pub OneGives : {T : Type 0} → (T → ℕ) → (T → Bool → Type 0) → BitSet → Bool → Type 0
+OneGives {T} bit call s b = (q : ℕ) × (contains s q ≡ true) × (t : T) × (bit t ≡ q) × call t b
+
+abbrev pub Selects : {T : Type 0} → (T → ℕ) → (T → Bool → Type 0) → BitSet → BitSet → Type 0
+Selects {T} bit call s u = IsTrue (is_subset u s) × ((q : ℕ) → contains s q ≡ true → (t : T) × (bit t ≡ q) × call t (contains u q))
+
+abbrev pub IsLenOf : BitSet → ℕ → Type 0
+IsLenOf u n = (s : BitSet) → ((q : ℕ) → contains s q ≡ contains u q) → n ≡ len s
+
+-- ---- the calls one by one, of which a search need not know
+
+-- an iterator whose bits left are seen as `bit` gives them
+abbrev pub steps : {T : Type 0} → (T → ℕ) → IterView → Option T → IterView → Type 0
+steps bit = steps_by bit (λ bits. bits)
+
+module _ {T F : Type 0} (bit : T → ℕ) (g : Mut F (T × Unit {0}) Bool) (i : IterView) (f : F) where
+  unfoldable pub AllCalls : Bool → IterView → Type 0
+  AllCalls r j = ChecksAll (steps bit) g i f r j
+
+  unfoldable pub AnyCalls : Bool → IterView → Type 0
+  AnyCalls r j = ChecksAny (steps bit) g i f r j
+
+  unfoldable pub PositionCalls : Option ℕ → IterView → Type 0
+  PositionCalls r j = FindsPosition (steps bit) g i f r j
+
+module _ {T F : Type 0} (bit : T → ℕ) (g : Mut F (Bor T × Unit {0}) Bool) where
+  unfoldable pub FindCalls : IterView → F → Option T → IterView → Type 0
+  FindCalls i f r j = FindsItem (steps bit) g i f r j
+
+  unfoldable pub FilterCounts : Filter IterView F → ℕ → Type 0
+  FilterCounts s n = (ts : List T) × Drains (filter_steps (steps bit) g) s ts × (n ≡ length ts)
+
+  unfoldable pub FilterCollects : {B E : Type 0} → (B → Type 0) → (List T → B → Type 0) → Filter IterView F → Result B E → Type 0
+  FilterCollects IsComplete Gives s r = IfOk r (λ v. (ts : List T) × DrainsIf (filter_steps (steps bit) g) (IsComplete v) s ts × Gives ts v)
+
+  unfoldable pub FilterRuns : IterView → F → Filter IterView F → Type 0
+  FilterRuns i f s = EachRunFrom (filter_steps (steps bit) g) s (λ u. SomeRun (steps bit) i (λ q. IsFilterRun u q g f))

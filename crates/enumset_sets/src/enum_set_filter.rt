@@ -1,0 +1,112 @@
+//! The iterator over the elements of a set for which a closure returns true.
+
+ghost use Rattle.std.specs.Prelude.{◌≡◌, IfOk, List, map};
+ghost use Rattle.std.specs.Fn.{CalledAt};
+ghost use Rattle.std.specs.Iterator.{CallableOnAllAt, HoldsAlong};
+ghost use Rattle.std.specs.Iterator.Adapters.{filter_source, filter_callee, filter_steps};
+ghost use Rattle.std.specs.Iterator.Runs.{CallKeepsClosure};
+ghost use Rattle.enumset_repr.specs.BitSet as set;
+ghost use Rattle.enumset_repr.specs.BitSet.{BitSet};
+ghost use Rattle.enumset_sets.specs.Calls.{FilterCollects, FilterCounts, FilterRuns, IsLenOf, Selects};
+
+use crate::element::EnumSetType;
+use crate::enum_set_iter::EnumSetIter;
+use std::alloc::AllocError;
+use std::iter::Filter;
+use std::marker::Model;
+
+/// An iterator over the elements for which a closure returns true, ascending by bit. The closure is called when an
+/// element is asked for, and not before.
+///
+/// [`EnumSetIter::filter`] makes it, in place of std's `Filter`, and contracts see it as one.
+#[derive(Drop)]
+pub struct EnumSetFilter<T: EnumSetType, P: FnMut(&T) -> bool> {
+    filter: Filter<EnumSetIter<T>, P>,
+}
+
+impl<T: EnumSetType, P: FnMut(&T) -> bool> Model for EnumSetFilter<T, P> {
+    ghost use Rattle.std.specs.Prelude.{◌<◌, ◌^◌, length};
+    ghost use Rattle.std.specs.Iterator.Adapters.{filter_source};
+    ghost use Rattle.std.specs.declared.iter.Filter.{Filter};
+    ghost use Rattle.enumset_repr.specs.Laws.Ascending.{AscendsFrom};
+    ghost use Rattle.enumset_repr.specs.Asks.{IterView};
+
+    ghost Value = { Filter IterView P };
+
+    ghost view = { λ f. f.filter };
+
+    ghost invariant = { λ f. AscendsFrom 0 (filter_source f.filter).items
+        × (length (filter_source f.filter).items < 2 ^ 32) };
+}
+
+impl<T: EnumSetType, P: FnMut(&T) -> bool> Iterator for EnumSetFilter<T, P> {
+    type Item = T;
+
+    ghost can_next = { λ s. CallableOnAllAt ⟦<EnumSetIter<T> as Iterator>⟧.next_gives P.FnMut (filter_source s) (filter_callee s) };
+
+    ghost next_gives = { filter_steps ⟦<EnumSetIter<T> as Iterator>⟧.next_gives P.FnMut };
+
+    ghost remaining = { λ s. ⟦<EnumSetIter<T> as Iterator>⟧.remaining (filter_source s) };
+
+    fn next(&mut self) -> Option<T> {
+        self.filter.next()
+    }
+
+    fn size_hint(&self) -> (usize, Option<usize>) {
+        self.filter.size_hint()
+    }
+}
+
+impl<T: EnumSetType, P: FnMut(&T) -> bool> DoubleEndedIterator for EnumSetFilter<T, P> {
+    ghost can_next_back = { λ s. CallableOnAllAt ⟦<EnumSetIter<T> as DoubleEndedIterator>⟧.next_back_gives P.FnMut (filter_source s) (filter_callee s) };
+
+    ghost next_back_gives = { filter_steps ⟦<EnumSetIter<T> as DoubleEndedIterator>⟧.next_back_gives P.FnMut };
+
+    fn next_back(&mut self) -> Option<T> {
+        self.filter.next_back()
+    }
+}
+
+/// What ends a chain, with contracts over the set. They do what the calls of `Iterator` do. `selected` holds where no call
+/// changes what the closure captured; `calls` says in any case which elements were taken.
+impl<T: EnumSetType, P: FnMut(&T) -> bool> EnumSetFilter<T, P> {
+    /// The elements of an iterator for which a closure returns true.
+    pub(crate) fn of(iter: EnumSetIter<T>, predicate: P) -> EnumSetFilter<T, P>
+        ensures source { filter_source result ≡ iter }
+        ensures closure { filter_callee result ≡ predicate }
+        ensures runs { FilterRuns T.elements.bit P.FnMut iter predicate result }
+    {
+        iter.learn_left();
+        EnumSetFilter {
+            filter: Iterator::filter(iter, predicate),
+        }
+    }
+
+    /// Returns the number of elements for which the closure returns true. It is called once for each element left,
+    /// ascending by bit.
+    pub fn count(self) -> usize
+        requires { CallableOnAllAt ⟦<EnumSetIter<T> as Iterator>⟧.next_gives P.FnMut (filter_source self) (filter_callee self) }
+        ensures calls { FilterCounts T.elements.bit P.FnMut self result }
+        ensures selected { CallKeepsClosure P.FnMut (filter_callee self) → (kept : BitSet)
+            × Selects T.elements.bit (λ t b. CalledAt P.FnMut (filter_callee self) t b (filter_callee self))
+            (set.from_list (filter_source self).items) kept
+            × IsLenOf kept result }
+    {
+        self.filter.count()
+    }
+
+    /// Returns a collection of the elements for which the closure returns true, ascending by bit, or an error if there
+    /// is no memory for it.
+    pub fn collect<B: FromIterator<T>>(self, alloc: B::Alloc) -> Result<B, AllocError>
+        requires can { CallableOnAllAt ⟦<EnumSetIter<T> as Iterator>⟧.next_gives P.FnMut (filter_source self) (filter_callee self) }
+        requires can_collect { HoldsAlong (filter_steps ⟦<EnumSetIter<T> as Iterator>⟧.next_gives P.FnMut) self B.can_from_iter }
+        ensures calls { FilterCollects T.elements.bit P.FnMut B.is_complete B.from_iter_gives self result }
+        ensures selected { CallKeepsClosure P.FnMut (filter_callee self) → IfOk result (λ v. B.is_complete v → (kept : BitSet) × (ts : List T)
+            × Selects T.elements.bit (λ t b. CalledAt P.FnMut (filter_callee self) t b (filter_callee self))
+            (set.from_list (filter_source self).items) kept
+            × (map T.elements.bit ts ≡ set.ascending kept) × (set.from_list (map T.elements.bit ts) ≡ kept)
+            × B.from_iter_gives ts v) }
+    {
+        self.filter.collect(alloc)
+    }
+}
