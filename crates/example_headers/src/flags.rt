@@ -22,7 +22,6 @@ pub fn decide(flags: EnumSet<Flag>) -> EnumSet<Flag>
 }
 
 /// The bits of a byte of flags that this version does not know.
-#[tactic(auto, using(enumset::specs::Sets::masks))]
 pub fn reserved_bits(byte: u8) -> u8
     ensures { bits result ≡ reserved (bits byte) }
 {
@@ -30,7 +29,6 @@ pub fn reserved_bits(byte: u8) -> u8
 }
 
 /// Whether this version knows every flag of a byte.
-#[tactic(auto, using(enumset::specs::Sets::masks))]
 pub fn is_understood(byte: u8) -> bool
     ensures { result ≡ true ↔ (set.is_subset (bits byte)
         (valid_bits ⟦<Flag as EnumSetType>⟧.elements) ≡ true) }

@@ -9,7 +9,6 @@ use crate::rights::Right;
 use enumset::{EnumSet, EnumSetType};
 
 /// How many rights are granted.
-#[tactic(auto, using(enumset::specs::Sets::chains))]
 pub fn granted_count<T: EnumSetType>(granted: &EnumSet<T>) -> usize
     ensures { result ≡ set.len granted.now }
 {
@@ -17,7 +16,6 @@ pub fn granted_count<T: EnumSetType>(granted: &EnumSet<T>) -> usize
 }
 
 /// How many of the granted rights are requested.
-#[tactic(auto, using(enumset::specs::Sets::chains))]
 pub fn requested_count<T: EnumSetType>(granted: &EnumSet<T>, requested: &EnumSet<T>) -> usize
     ensures { result ≡ set.len (set.intersection granted.now requested.now) }
 {
@@ -28,7 +26,6 @@ pub fn requested_count<T: EnumSetType>(granted: &EnumSet<T>, requested: &EnumSet
 }
 
 /// Whether all granted rights are requested.
-#[tactic(auto, using(enumset::specs::Sets::chains))]
 pub fn are_requested<T: EnumSetType>(granted: &EnumSet<T>, requested: &EnumSet<T>) -> bool
     ensures { result ≡ set.is_subset granted.now requested.now }
 {
@@ -36,7 +33,6 @@ pub fn are_requested<T: EnumSetType>(granted: &EnumSet<T>, requested: &EnumSet<T
 }
 
 /// Whether one of the granted rights is requested.
-#[tactic(auto, using(enumset::specs::Sets::chains))]
 pub fn is_one_requested<T: EnumSetType>(granted: &EnumSet<T>, requested: &EnumSet<T>) -> bool
     ensures { result ≡ not (set.is_disjoint granted.now requested.now) }
 {
@@ -44,7 +40,6 @@ pub fn is_one_requested<T: EnumSetType>(granted: &EnumSet<T>, requested: &EnumSe
 }
 
 /// The first of the granted rights that is requested.
-#[tactic(auto, using(enumset::specs::Sets::chains))]
 pub fn first_requested<T: EnumSetType>(granted: &EnumSet<T>, requested: &EnumSet<T>) -> Option<T>
     ensures { option_map T.elements.bit result
         ≡ find (set.contains requested.now) (set.ascending granted.now) }
@@ -68,7 +63,7 @@ pub fn is_in_each<T: EnumSetType>(sets: &[EnumSet<T>], right: T) -> bool
 }
 
 /// How many of the granted rights are requested or licensed.
-#[tactic(auto, using(enumset::specs::Sets::chains_of_two))]
+#[tactic(auto, using(enumset::specs::Sets::decided))]
 pub fn useful_count(
     granted: EnumSet<Right>,
     requested: EnumSet<Right>,
@@ -83,7 +78,7 @@ pub fn useful_count(
 }
 
 /// How many of the granted rights are requested and not denied.
-#[tactic(auto, using(enumset::specs::Sets::chains_of_two))]
+#[tactic(auto, using(enumset::specs::Sets::decided))]
 pub fn permitted_count(
     granted: EnumSet<Right>,
     requested: EnumSet<Right>,
@@ -98,7 +93,7 @@ pub fn permitted_count(
 }
 
 /// How many of the granted rights are neither requested nor denied.
-#[tactic(auto, using(enumset::specs::Sets::chains_of_two))]
+#[tactic(auto, using(enumset::specs::Sets::decided))]
 pub fn idle_count(
     granted: EnumSet<Right>,
     requested: EnumSet<Right>,

@@ -15,7 +15,6 @@ pub fn exchanged<T: EnumSetType>(granted: EnumSet<T>, new: T, old: T) -> EnumSet
 }
 
 /// Grants a right and revokes another.
-#[tactic(auto, using(enumset::specs::Sets::algebra))]
 pub fn exchange<T: EnumSetType>(granted: &mut EnumSet<T>, new: T, old: T)
     ensures { granted.new
         ≡ set.remove (set.insert granted.old (T.elements.bit new)) (T.elements.bit old) }

@@ -5,7 +5,7 @@ ghost use Rattle.enumset.specs.Sets as set;
 ghost use Rattle.example_rights.specs.Right.{bit};
 
 use crate::rights::Right;
-use enumset::{EnumSet, laws};
+use enumset::EnumSet;
 
 /// Grants a right, and returns whether it was missing.
 pub fn grant(rights: &mut EnumSet<Right>, right: Right) -> bool
@@ -16,12 +16,9 @@ pub fn grant(rights: &mut EnumSet<Right>, right: Right) -> bool
 }
 
 /// All rights: each of them, on the bits below 3.
-#[tactic(auto, unfolding(enumset::specs::Sets::valid_bits))]
 pub fn all_granted() -> EnumSet<Right>
     ensures all { result ≡ set.below 3 }
     ensures each { (right : Right) → set.contains result (bit right) ≡ true }
 {
-    laws::bit_and_back::<Right>();
-    laws::bits_below(3);
     EnumSet::all()
 }

@@ -21,7 +21,6 @@ pub fn allowed<T: EnumSetType>(granted: &EnumSet<T>, denied: &EnumSet<T>) -> Enu
 }
 
 /// How many of the granted rights are denied.
-#[tactic(auto, using(enumset::specs::Sets::loops))]
 pub fn denied_count<T: EnumSetType>(granted: &EnumSet<T>, denied: &EnumSet<T>) -> usize
     ensures { result ≡ set.len (set.intersection granted.now denied.now) }
 {
@@ -35,7 +34,6 @@ pub fn denied_count<T: EnumSetType>(granted: &EnumSet<T>, denied: &EnumSet<T>) -
 }
 
 /// The first of the granted rights that is denied.
-#[tactic(auto, using(enumset::specs::Sets::loops))]
 pub fn first_denied<T: EnumSetType>(granted: &EnumSet<T>, denied: &EnumSet<T>) -> Option<T>
     ensures { option_map T.elements.bit result
         ≡ find (set.contains denied.now) (set.ascending granted.now) }
@@ -49,7 +47,6 @@ pub fn first_denied<T: EnumSetType>(granted: &EnumSet<T>, denied: &EnumSet<T>) -
 }
 
 /// The first of the granted rights after one.
-#[tactic(auto, using(enumset::specs::Sets::searches))]
 pub fn next_granted<T: EnumSetType>(granted: &EnumSet<T>, past: T) -> Option<T>
     ensures granted { IfSome result (λ right. set.contains granted.now (T.elements.bit right) ≡ true) }
     ensures later { IfSome result (λ right. T.elements.bit past < T.elements.bit right) }
@@ -67,7 +64,6 @@ pub fn next_granted<T: EnumSetType>(granted: &EnumSet<T>, past: T) -> Option<T>
 }
 
 /// Whether no granted right is denied.
-#[tactic(auto, using(enumset::specs::Sets::loops))]
 pub fn is_unhindered<T: EnumSetType>(granted: &EnumSet<T>, denied: &EnumSet<T>) -> bool
     ensures { result ≡ set.is_disjoint granted.now denied.now }
 {
@@ -80,7 +76,6 @@ pub fn is_unhindered<T: EnumSetType>(granted: &EnumSet<T>, denied: &EnumSet<T>) 
 }
 
 /// The granted rights that are not denied, taken out one after another.
-#[tactic(auto, using(enumset::specs::Sets::loops))]
 pub fn allowed_in_turn<T: EnumSetType>(granted: EnumSet<T>, denied: &EnumSet<T>) -> EnumSet<T>
     ensures { result ≡ set.difference granted denied.now }
 {
@@ -95,7 +90,6 @@ pub fn allowed_in_turn<T: EnumSetType>(granted: EnumSet<T>, denied: &EnumSet<T>)
 }
 
 /// The granted rights that are not denied, kept by a test that looks at another set.
-#[tactic(auto, unfolding(enumset::specs::Sets::difference))]
 pub fn keep_allowed<T: EnumSetType>(granted: &mut EnumSet<T>, denied: &EnumSet<T>)
     ensures { granted.new ≡ set.difference granted.old denied.now }
 {
@@ -103,7 +97,6 @@ pub fn keep_allowed<T: EnumSetType>(granted: &mut EnumSet<T>, denied: &EnumSet<T
 }
 
 /// Grants more rights, and returns whether one of them is new. If none is, nothing changes.
-#[tactic(auto, using(enumset::specs::Sets::algebra))]
 pub fn gain<T: EnumSetType>(granted: &mut EnumSet<T>, more: &EnumSet<T>) -> bool
     ensures granted { granted.new ≡ set.union granted.old more.now }
     ensures is_new { result ≡ not (set.is_subset more.now granted.old) }

@@ -22,7 +22,6 @@ pub fn is_apart_from_the_rest<T: EnumSetType>(granted: &EnumSet<T>) -> bool
 }
 
 /// A new set, into which the granted rights are inserted one by one.
-#[tactic(auto, using(enumset::specs::Sets::loops))]
 pub fn rebuilt<T: EnumSetType>(granted: &EnumSet<T>) -> EnumSet<T>
     ensures { result ≡ granted.now }
 {

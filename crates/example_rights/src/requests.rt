@@ -15,7 +15,6 @@ pub fn may(granted: EnumSet<Right>, requested: EnumSet<Right>) -> bool
 }
 
 /// Whether none of the granted rights is requested.
-#[tactic(auto, using(enumset_repr::specs::Laws::Iteration::some_shared))]
 pub fn is_none_requested(granted: &EnumSet<Right>, requested: &EnumSet<Right>) -> bool
     ensures { result ≡ set.is_disjoint granted.now requested.now }
 {
@@ -23,7 +22,7 @@ pub fn is_none_requested(granted: &EnumSet<Right>, requested: &EnumSet<Right>) -
 }
 
 /// How many of the granted rights are requested and licensed.
-#[tactic(auto, using(enumset::specs::Sets::chains_of_two))]
+#[tactic(auto, using(enumset::specs::Sets::decided))]
 pub fn usable_count(
     granted: EnumSet<Right>,
     requested: EnumSet<Right>,
@@ -38,7 +37,6 @@ pub fn usable_count(
 }
 
 /// The first of the rights that are requested and not granted.
-#[tactic(auto, using(enumset::specs::Sets::found))]
 pub fn first_missing<T: EnumSetType>(granted: &EnumSet<T>, requested: &EnumSet<T>) -> Option<T>
     ensures missing { IfSome result (λ right.
         set.contains (set.difference requested.now granted.now) (T.elements.bit right) ≡ true) }
@@ -50,7 +48,6 @@ pub fn first_missing<T: EnumSetType>(granted: &EnumSet<T>, requested: &EnumSet<T
 }
 
 /// The first of the granted rights past a bit.
-#[tactic(auto, using(enumset::specs::Sets::tests))]
 pub fn first_past<T: EnumSetType>(granted: &EnumSet<T>, bit: u32) -> Option<T>
     ensures granted { IfSome result (λ right. set.contains granted.now (T.elements.bit right) ≡ true) }
     ensures past { IfSome result (λ right. bit < T.elements.bit right) }
@@ -64,7 +61,6 @@ pub fn first_past<T: EnumSetType>(granted: &EnumSet<T>, bit: u32) -> Option<T>
 }
 
 /// Whether no granted right is past a bit.
-#[tactic(auto, using(enumset::specs::Sets::tests))]
 pub fn is_none_past<T: EnumSetType>(granted: &EnumSet<T>, bit: u32) -> bool
     ensures { result ≡ list_all (λ q. nat_le q bit) (set.ascending granted.now) }
 {

@@ -76,7 +76,6 @@ pub fn may_only_read(granted: EnumSet<Permission>) -> bool
 }
 
 /// The permissions of somebody who may read whatever is shared with them, and change it if they may write.
-#[tactic(auto, using(enumset::specs::Sets::set_laws), unfolding(enumset::specs::Sets::place))]
 pub fn of_editor(granted: EnumSet<Permission>) -> EnumSet<Permission>
     ensures { result ≡ set.insert (set.insert (set.remove granted (permission Permission.Delete))
         (permission Permission.Comment)) (permission Permission.Read) }

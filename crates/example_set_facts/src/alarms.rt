@@ -92,7 +92,7 @@ pub fn muted_or_not(muted: EnumSet<Alarm>) -> EnumSet<Alarm>
 }
 
 /// Takes out the alarms that are cleared, and returns how many they are.
-#[tactic(auto, using(enumset::specs::Sets::decided, enumset::specs::Sets::counts, enumset::specs::Sets::counts_of_parts))]
+#[tactic(auto, using(enumset::specs::Sets::decided, enumset::specs::Sets::counts))]
 pub fn clear(active: &mut EnumSet<Alarm>, cleared: &EnumSet<Alarm>) -> usize
     ensures left { active.new ≡ set.retain active.old (λ q. not (set.contains cleared.now q)) }
     ensures count { result ≡ set.len (set.difference active.old active.new) }

@@ -11,7 +11,6 @@ use crate::slices::count_in;
 use enumset::{EnumSet, EnumSetType};
 
 /// How many elements two sets share.
-#[tactic(auto, using(enumset::specs::Sets::chains))]
 pub fn shared_count<T: EnumSetType>(one: &EnumSet<T>, other: &EnumSet<T>) -> usize
     ensures { result ≡ set.len (set.intersection one.now other.now) }
 {
@@ -19,7 +18,6 @@ pub fn shared_count<T: EnumSetType>(one: &EnumSet<T>, other: &EnumSet<T>) -> usi
 }
 
 /// Whether all elements of a set are in another one.
-#[tactic(auto, using(enumset::specs::Sets::chains))]
 pub fn are_all_in<T: EnumSetType>(one: &EnumSet<T>, other: &EnumSet<T>) -> bool
     ensures { result ≡ set.is_subset one.now other.now }
 {
@@ -27,7 +25,6 @@ pub fn are_all_in<T: EnumSetType>(one: &EnumSet<T>, other: &EnumSet<T>) -> bool
 }
 
 /// Whether some element of a set is in another one.
-#[tactic(auto, using(enumset::specs::Sets::chains))]
 pub fn is_some_in<T: EnumSetType>(one: &EnumSet<T>, other: &EnumSet<T>) -> bool
     ensures { result ≡ not (set.is_disjoint one.now other.now) }
 {
@@ -35,7 +32,6 @@ pub fn is_some_in<T: EnumSetType>(one: &EnumSet<T>, other: &EnumSet<T>) -> bool
 }
 
 /// Keeps the elements that another set lacks.
-#[tactic(auto, unfolding(enumset::specs::Sets::difference))]
 pub fn keep_absent<T: EnumSetType>(members: &mut EnumSet<T>, other: &EnumSet<T>)
     ensures { members.new ≡ set.difference members.old other.now }
 {
@@ -43,7 +39,6 @@ pub fn keep_absent<T: EnumSetType>(members: &mut EnumSet<T>, other: &EnumSet<T>)
 }
 
 /// Keeps the elements that another set has.
-#[tactic(auto, unfolding(enumset::specs::Sets::intersection))]
 pub fn keep_present<T: EnumSetType>(members: &mut EnumSet<T>, other: &EnumSet<T>)
     ensures { members.new ≡ set.intersection members.old other.now }
 {
@@ -58,7 +53,6 @@ pub fn first_granted(granted: EnumSet<Permission>) -> Option<Permission>
 }
 
 /// The first element from a bit on.
-#[tactic(auto, using(enumset::specs::Sets::tests))]
 pub fn found_from<T: EnumSetType>(members: &EnumSet<T>, bit: u32) -> Option<T>
     ensures member { IfSome result (λ t. set.contains members.now (T.elements.bit t) ≡ true) }
     ensures later { IfSome result (λ t. bit ≤ T.elements.bit t) }
@@ -106,7 +100,6 @@ pub fn has_both(granted: EnumSet<Permission>) -> bool
 }
 
 /// Whether another set lacks each element of a set.
-#[tactic(auto, using(enumset::specs::Sets::tests))]
 pub fn lacks_each<T: EnumSetType>(one: &EnumSet<T>, other: &EnumSet<T>) -> bool
     ensures { result ≡ list_all (λ q. not (set.contains other.now q)) (set.ascending one.now) }
 {

@@ -96,7 +96,6 @@ pub fn left_after<T: EnumSetType>(members: &mut EnumSet<T>, old: T) -> usize
 }
 
 /// Whether a part has no more members than the whole: always.
-#[tactic(auto, using(enumset::specs::Sets::decided, enumset::specs::Sets::counts, enumset::specs::Sets::counts_of_parts))]
 pub fn is_no_larger<T: EnumSetType>(part: &EnumSet<T>, whole: &EnumSet<T>) -> bool
     requires { set.is_subset part.now whole.now ≡ true }
     ensures { result ≡ true }
@@ -105,7 +104,6 @@ pub fn is_no_larger<T: EnumSetType>(part: &EnumSet<T>, whole: &EnumSet<T>) -> bo
 }
 
 /// Whether a part is the whole, told by counts.
-#[tactic(auto, using(enumset::specs::Sets::decided, enumset::specs::Sets::counts, enumset::specs::Sets::counts_of_parts))]
 pub fn is_whole<T: EnumSetType>(part: &EnumSet<T>, whole: &EnumSet<T>) -> bool
     requires { set.is_subset part.now whole.now ≡ true }
     ensures { result ≡ true ↔ (part.now ≡ whole.now) }
@@ -114,7 +112,6 @@ pub fn is_whole<T: EnumSetType>(part: &EnumSet<T>, whole: &EnumSet<T>) -> bool
 }
 
 /// The only member, if there is one alone.
-#[tactic(auto, using(enumset::specs::Sets::decided, enumset::specs::Sets::ends, enumset::specs::Sets::counts, enumset::specs::Sets::counts_of_parts))]
 pub fn sole<T: EnumSetType>(members: &EnumSet<T>) -> Option<T>
     ensures sole { IfSome result (λ t. members.now ≡ set.only (T.elements.bit t)) }
     ensures none { IfNone result (set.len members.now ≢ 1) }
@@ -127,7 +124,6 @@ pub fn sole<T: EnumSetType>(members: &EnumSet<T>) -> Option<T>
 }
 
 /// Whether two sets share a member, told by counts: exactly then, their union has fewer than both in sum.
-#[tactic(auto, using(enumset::specs::Sets::counts, enumset::specs::Sets::counts_of_parts, enumset_repr::specs::Laws::Members::subsets))]
 pub fn must_overlap<T: EnumSetType>(one: &EnumSet<T>, other: &EnumSet<T>) -> bool
     ensures { result ≡ not (set.is_disjoint one.now other.now) }
 {

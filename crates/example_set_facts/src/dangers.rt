@@ -28,7 +28,6 @@ pub fn dangerous(granted: EnumSet<Permission>) -> EnumSet<Permission>
 }
 
 /// Keeps the permissions that are not dangerous.
-#[tactic(auto, unfolding(enumset::specs::Sets::difference))]
 pub fn keep_harmless(granted: &mut EnumSet<Permission>)
     ensures { granted.new ≡ set.difference granted.old dangerous_bits }
 {
@@ -36,7 +35,6 @@ pub fn keep_harmless(granted: &mut EnumSet<Permission>)
 }
 
 /// Whether one of a user's permissions is dangerous.
-#[tactic(auto, using(enumset::specs::Sets::chains))]
 pub fn has_dangerous(granted: EnumSet<Permission>) -> bool
     ensures { result ≡ not (set.is_disjoint granted dangerous_bits) }
 {
@@ -44,7 +42,7 @@ pub fn has_dangerous(granted: EnumSet<Permission>) -> bool
 }
 
 /// How many of a user's permissions are dangerous.
-#[tactic(auto, using(enumset::specs::Sets::chains))]
+#[tactic(auto, using(enumset::specs::Sets::decided))]
 pub fn dangerous_count(granted: EnumSet<Permission>) -> usize
     ensures { result ≡ set.len (set.intersection granted dangerous_bits) }
 {

@@ -28,7 +28,6 @@ pub fn marked(byte: u8, new: Flag) -> u8
 }
 
 /// The byte with flags cleared. Its other bits stay, also reserved ones.
-#[tactic(auto, using(enumset::specs::Sets::masks))]
 pub fn cleared(byte: u8, flags: EnumSet<Flag>) -> u8
     ensures { bits result ≡ set.difference (bits byte) flags }
 {
@@ -36,7 +35,6 @@ pub fn cleared(byte: u8, flags: EnumSet<Flag>) -> u8
 }
 
 /// Whether a byte has none of the flags.
-#[tactic(auto, using(enumset::specs::Sets::masks))]
 pub fn has_none(byte: u8, flags: EnumSet<Flag>) -> bool
     ensures { result ≡ set.is_disjoint (bits byte) flags }
 {

@@ -22,7 +22,6 @@ pub fn price_of(asked: Permission) -> u32
 }
 
 /// What permissions cost together, if it fits.
-#[tactic(auto, using(enumset::specs::Sets::loops))]
 pub fn total_price(granted: EnumSet<Permission>) -> Option<u32>
     ensures total { IfSome result (λ n. n ≡ sum_by price (set.ascending granted)) }
     ensures none { IfNone result (4294967296 ≤ sum_by price (set.ascending granted)) }

@@ -8,7 +8,7 @@ ghost use Rattle.std.specs.declared.cmp.Ordering.TheVariants.{Less, Greater};
 ghost use Rattle.enumset.specs.Sets as set;
 ghost use Rattle.enumset.specs.Sets.{number, compare};
 
-use enumset::{EnumSet, EnumSetType, laws};
+use enumset::{EnumSet, EnumSetType};
 use std::alloc::AllocError;
 
 /// Sorts sets.
@@ -48,14 +48,12 @@ pub fn place_of<T: EnumSetType>(sets: &[EnumSet<T>], wanted: &EnumSet<T>) -> Res
 }
 
 /// Two sets, the lesser first.
-#[tactic(auto, using(enumset::specs::Sets::decided))]
 pub fn in_order<T: EnumSetType>(one: EnumSet<T>, other: EnumSet<T>) -> (EnumSet<T>, EnumSet<T>)
     ensures lesser { result.0 ≡ ord_min compare one other }
     ensures greater { result.1 ≡ ord_max compare one other }
     ensures ordered { number result.0 ≤ number result.1 }
     ensures same { set.union result.0 result.1 ≡ set.union one other }
 {
-    laws::order();
     if one <= other {
         (one, other)
     } else {

@@ -1,10 +1,17 @@
-use Rattle.std.proofs.Common.{◌≡◌, ◌<◌, length, true, rules, arith}
+use Rattle.std.proofs.Common.{◌≡◌, ◌<◌, length, true, ap, ◌∙◌, rules, arith}
 use Rattle.std.proofs.lemmas.List.{get_or_default}
 use Rattle.enumset.specs.Sets as set
-use Rattle.enumset.specs.FixedPoints.{many_gathered, many_pass_next, many_pass_last, place_below, passed_next, passed_whole}
+use Rattle.enumset.specs.FixedPoints.{many_gathered, many_pass_first, many_pass_next, many_pass_last, place_below, passed_next, passed_whole}
 use Rattle.example_fixed_points.specs.contracts.nonterminal.Nonterminal as grammar
 use Rattle.example_fixed_points.specs.contracts.token.Token as text
 use Rattle.example_fixed_points.proofs.grammar_in_passes.all_first.Goals as goal
+
+-- at first no place is passed
+pub loop-of-init : goal.loop-of-init
+loop-of-init c =
+    let all = set.valid_bits (set.in_place grammar.the_type) in
+    let items = c.into_iter-of-iterator.ensures.into_iter_gives.0.items ∙ ap set.ascending c.all-of-items.ensures in
+    many_pass_first _ _ _ _ _ c.loop-changed.invariant.reached (ap (λ bs. set.difference all (set.from_list bs)) items ∙ ap (set.difference all) (set.from_list_ascending all) ∙ set.difference_self all)
 
 pub listed : goal.listed
 listed c =

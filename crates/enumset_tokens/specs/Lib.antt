@@ -1,4 +1,0 @@
-pub mod Literals
-pub mod Numbers
-pub mod OptionValues
-pub mod Sources
