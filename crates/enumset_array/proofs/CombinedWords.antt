@@ -1,4 +1,4 @@
--- The words of an `ArrayRepr` that are made, word by word, from the words of others.
+-- The words of an `ArrayRepr` that an operation makes, word by word, from the words of one or two others.
 use Rattle.std.proofs.Common.{◌≡◌, ◌<◌, ◌≤◌, ◌↔◌, ℕ, ◌*◌, ◌+◌, ◌^◌, false, ◌-◌, List, ◌++◌, length, drop, sym, ap, ◌∙◌, subst, arith, w64, ◌==◌, slice_index, nat_eq, map, IsTrue, get_or-take, get_or-drop, length-append, length-take, length-drop}
 use Rattle.std.proofs.Math.Pow.{ones_sub-lt}
 use Rattle.std.proofs.lemmas.Bool.Decides.{nat_tests, same_from_decides}
@@ -19,7 +19,7 @@ use Rattle.enumset_array.specs.Operations.{IsOnBits}
 
 module _ (op : ℕ → ℕ → ℕ) (of_sets : BitSet → BitSet → BitSet) (on : IsOnBits op of_sets) (n : ℕ) (a b : List ℕ) (first : IsArrayRepr n a) (second : IsArrayRepr n b) where
   none_past : (k : ℕ) → in_use n ≤ k → op (slice_index a k) (slice_index b k) ≡ 0
-  none_past k past = (λ i. op (past_is n a k first.past past i) (past_is n b k second.past past i)) ∙ on.none
+  none_past k past = (λ i. op (past_is n a k first past i) (past_is n b k second past i)) ∙ on.none
 
   length-made : length (zip2 op a b) ≡ n
   length-made = length-zip2 op a b (first.long ∙ sym second.long) ∙ first.long
@@ -48,7 +48,7 @@ module _ (op : ℕ → ℕ → ℕ) (of_sets : BitSet → BitSet → BitSet) (on
   pub made_none : IsTrue (list_all (λ w. w == 0) (zip2 op a b)) ↔ (of_sets (set_of n a) (set_of n b) ≡ empty)
   made_none = subst (λ s. IsTrue (list_all (λ w. w == 0) (zip2 op a b)) ↔ (s ≡ empty)) made_set (none_iff n _ made_repr)
 
-  -- the words stay exactly if the set does
+  -- the words stay the same exactly if the set does
   pub made_same : pointwise nat_eq a (zip2 op a b) ≡ is_same (set_of n a) (of_sets (set_of n a) (set_of n b))
   made_same = subst (λ s. pointwise nat_eq a (zip2 op a b) ≡ is_same (set_of n a) s) made_set (same_from_decides _ _ (equal n a _ first made_repr) (is_same_iff _ _))
 
@@ -77,7 +77,7 @@ module _ (n : ℕ) (a : List ℕ) (first : IsArrayRepr n a) where
   none k past =
       let place : in_use n + (k - in_use n) ≡ k = omega (arith, past) in
       get_or-append_right front (drop (in_use n) a) (in_use n) k 0 length-front past
-      ∙ get_or-drop (in_use n) a (k - in_use n) 0 ∙ ap (slice_index a) place ∙ past_is n a k first.past past
+      ∙ get_or-drop (in_use n) a (k - in_use n) 0 ∙ ap (slice_index a) place ∙ past_is n a k first past
 
   pub inverted_repr : IsArrayRepr n (inverted n a)
   inverted_repr = record {

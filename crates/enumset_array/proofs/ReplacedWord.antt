@@ -1,5 +1,5 @@
 -- The words of an `ArrayRepr` after one of them is replaced.
-use Rattle.std.proofs.Common.{◌≡◌, ◌≢◌, ◌<◌, ℕ, ◌*◌, ◌+◌, ◌-◌, ◌/◌, ◌%◌, ◌^◌, true, false, not, List, set, bit_and, bit_or, refl, sym, ap, ◌∙◌, subst, arith, w64, length-set, ◌==◌, slice_index, get_or-set_same, get_or-set_other, drop-set-lt}
+use Rattle.std.proofs.Common.{nat_lt, ◌||◌, ◌≡◌, ◌≢◌, ◌<◌, ℕ, ◌*◌, ◌+◌, ◌-◌, ◌/◌, ◌%◌, ◌^◌, true, false, not, List, set, bit_and, bit_or, refl, sym, ap, ◌∙◌, subst, arith, w64, length-set, ◌==◌, slice_index, get_or-set_same, get_or-set_other, drop-set-lt}
 use Rattle.std.proofs.Math.Nat.{div-add-mod}
 use Rattle.std.proofs.Math.Pow.{ones_sub-lt}
 use Rattle.std.proofs.lemmas.Bool.Decides.{nat_tests}
@@ -14,7 +14,8 @@ use Rattle.enumset_repr.specs.Laws.WordLists.{contains_bits_above}
 use Rattle.enumset_repr.specs.Laws.Words.{contains_with_word}
 use Rattle.enumset_repr.specs.Number.{bits}
 use Rattle.enumset_repr.specs.Words.{with_word}
-use Rattle.enumset_array.specs.ArrayWords.{in_use, set_of, IsArrayRepr}
+use Rattle.enumset_array.specs.declared.array_repr.TheConstants.{WORD_LIMIT}
+use Rattle.enumset_array.specs.ArrayWords.{in_use, set_of, is_zero_past, IsArrayRepr}
 use Rattle.enumset_array.specs.Laws.ArrayWords.{contains_set_of, set_is}
 
 -- what holds at one place and at each other place holds at all
@@ -32,13 +33,14 @@ module _ (n : ℕ) (ws : List ℕ) (i x : ℕ) (is_repr : IsArrayRepr n ws) (low
   kept k apart = get_or-set_other ws i k x 0 apart
 
   pub set_repr : IsArrayRepr n (set ws i x)
+  unfolding is_zero_past
   set_repr = record {
     long = length-set ws i x ∙ is_repr.long;
     fit = at_or_apart (λ k. slice_index (set ws i x) k < 2 ^ 64) i (subst (λ y. y < 2 ^ 64) (sym placed) fits) (λ k apart. subst (λ y. y < 2 ^ 64) (sym (kept k apart)) (is_repr.fit k));
-    past = ap (list_all (λ w. w == 0)) (drop-set-lt (in_use n) ws i x low) ∙ is_repr.past;
+    past = ap (λ zs. nat_lt n WORD_LIMIT || list_all (λ w. w == 0) zs) (drop-set-lt (in_use n) ws i x low) ∙ is_repr.past;
   }
 
-  -- which set the words represent, by its bits in that word and elsewhere
+  -- with x as word i, the words represent s, if s has the bits of x in this word and those of ws in each other word
   pub set_at : (s : BitSet) → ((b : ℕ) → b < 64 → contains (bits x) b ≡ contains s (64 * i + b))
       → ((w b : ℕ) → w ≢ i → b < 64 → contains (set_of n ws) (64 * w + b) ≡ contains s (64 * w + b)) → IsArrayRepr n (set ws i x) × (set_of n (set ws i x) ≡ s)
   set_at s here elsewhere = (

@@ -2,7 +2,7 @@
 
 ghost use Rattle.std.specs.Prelude.{◌≡◌, ◌<◌, ◌≤◌, ◌*◌, replicate};
 ghost use Rattle.enumset_repr.specs.BitSet.{ascending};
-ghost use Rattle.enumset_array.specs.ArrayWords.{in_use, set_of, IsArrayRepr};
+ghost use Rattle.enumset_array.specs.ArrayWords.{array_of, in_use, set_of, IsArrayRepr};
 ghost use Rattle.enumset_repr.specs.Words.{words};
 ghost use Rattle.enumset_repr.specs.Laws.Representations.{by_sets};
 ghost use Rattle.enumset_array.specs.Laws.Asks.{counted, listed};
@@ -16,15 +16,16 @@ use crate::set_operation::{And, AndNot, Or, Xor, apply, apply_changes, yields_no
 use enumset_repr::{EnumSetTypeRepr, InjectiveHash};
 use std::marker::Model;
 
-/// There are always fewer words in use than this, so that the width fits a `u32`.
+/// The number of words in use is always below this limit, so that the width fits a `u32`.
 pub(crate) const WORD_LIMIT: usize = 67108864;
 
 /// A representation of `N` words of 64 bits, the lowest first: bit `n` is bit `n % 64` of word `n / 64`.
 ///
 /// Only the first [`LEN`](ArrayRepr::LEN) words are in use, and the others are 0. Code that builds a value must prove
-/// that these are 0. Up to 67108863 words all are in use, so there is nothing to prove.
+/// that the others are 0. Up to 67108863 words all are in use, so there is nothing to prove.
 ///
-/// It mirrors `ArrayRepr` of Rust's `enumset`, where `N` must not be 0 and the width overflows from 67108864 words on.
+/// The struct mirrors `ArrayRepr` of Rust's `enumset`, where `N` must not be 0 and the width overflows from 67108864
+/// words on.
 #[derive(Clone, Copy, Debug, Hash)]
 pub struct ArrayRepr<const N: usize>(pub [u64; N]);
 
@@ -68,7 +69,7 @@ impl<const N: usize> ArrayRepr<N> {
     /// 64 bits a word, is below 2^32 for every `N`.
     pub const LEN: usize = N % WORD_LIMIT;
 
-    /// The words. A proof learns from the call that the value is one of its type.
+    /// Returns the words. A proof learns from the call that `self` is a value of the type.
     pub(crate) fn words(&self) -> &[u64; N]
         ensures value { IsArrayRepr N self.now }
         ensures words { result.now ≡ self.now }
@@ -79,10 +80,11 @@ impl<const N: usize> ArrayRepr<N> {
     }
 }
 
+#[tactic(auto, unfolding(crate::specs::ArrayWords::is_zero_past))]
 impl<const N: usize> EnumSetTypeRepr for ArrayRepr<N> {
     ghost members = { set_of N };
 
-    ghost of_members = { λ s. words s N };
+    ghost of_members = { array_of N };
 
     ghost is_value = { IsArrayRepr N };
 
@@ -107,7 +109,7 @@ impl<const N: usize> EnumSetTypeRepr for ArrayRepr<N> {
     ghost span = { λ i. i.span };
 
     fn learn_is_value(self) {
-        // This read tells the proof what the type says of its words.
+        // This read tells the proof that the words are those of a value of the type.
         let _words = &self.0;
     }
 

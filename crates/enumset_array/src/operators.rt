@@ -48,6 +48,7 @@ impl<const N: usize> BitXor for ArrayRepr<N> {
     }
 }
 
+#[tactic(auto, unfolding(crate::specs::ArrayWords::is_zero_past))]
 impl<const N: usize> Not for ArrayRepr<N> {
     type Output = ArrayRepr<N>;
 

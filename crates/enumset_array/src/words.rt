@@ -31,7 +31,7 @@ impl<const N: usize> Model for Words<N> {
 }
 
 impl<const N: usize> Words<N> {
-    /// The words in use of an `ArrayRepr`, not yet asked.
+    /// Returns the words in use of an `ArrayRepr`, with a count of 0 asks.
     pub(crate) fn new(repr: ArrayRepr<N>) -> Self
         ensures { result ≡ record { words = words_in_use N repr.entry; asks = 0 } }
     {
@@ -43,7 +43,7 @@ impl<const N: usize> Words<N> {
         }
     }
 
-    /// The same words, with the same count of asks.
+    /// Returns the same words, with the same count of asks.
     pub(crate) fn same(&self) -> Self
         ensures { result ≡ self.now }
     {
@@ -53,7 +53,7 @@ impl<const N: usize> Words<N> {
         }
     }
 
-    /// The number of bits left. This call is not an ask.
+    /// Returns the number of bits left. This call is not an ask.
     pub(crate) fn bits_left(&self) -> usize
         ensures { result ≡ length (items_of self.now.words) }
     {
@@ -61,13 +61,14 @@ impl<const N: usize> Words<N> {
     }
 }
 
+#[tactic(auto, unfolding(crate::specs::ArrayWords::is_zero_past))]
 impl<const N: usize> Row for Words<N> {
     ghost words = { λ r. r.words };
 
     ghost asks = { λ r. r.asks };
 
     fn word_count(&self) -> usize {
-        // This read tells the proof what the type says of its words.
+        // This read tells the proof that the words are those of an `ArrayRepr`.
         let _words = &self.repr;
         N % WORD_LIMIT
     }

@@ -2,7 +2,7 @@
 --     ascending_retain, len_retain      the members that pass a test, ascending;  how many they are, as a count
 --     ascending_intersection, ascending_difference      the members of s that are in t, and that are not, ascending
 --     is_empty_difference, is_empty_intersection      tests of subsets and of disjoint sets
---     len_parts      the members of s outside t and those inside t are all of s
+--     len_parts      s has as many members as its parts outside t and inside t together
 --     len_union_more, len_union_same      a union has the members of one set and those of the other outside it;  it has
 --         as many members as the one exactly if the other is a subset
 --     len_union      a union and an intersection together have as many members as the two sets together
@@ -10,25 +10,22 @@
 --     len_proper      a proper subset has fewer members
 --     len_union_most, len_disjoint_union      a union has at most as many members as the two sets together, and as many
 --         if they are disjoint
---     len_complement      a subset and its complement have as many members as the set
+--     len_complement      a subset and its complement have together as many members as the set
 --     subset_equality      a subset with as many members is the whole set
 --     len_apart      how many members of s are in the union of two disjoint sets
 --     len_inserted, len_removed      inserting a number adds one member;  removing a member leaves one less
 --     len_zero_iff      a set has 0 members exactly if it is the empty set
 --     len_only, len_all_below      a set of one number has one member;  there are n numbers below n
 --     kept_count, left_count      the length of the list of the members of s that are in t, and that are not
---     len_kept, len_left      the number of members of s that are in t, and that are not, as a count over the list of s
---     len_kept_both, len_kept_either, len_kept_but, len_left_both      the number of members of s that are in both of
---         two sets, in either, in the first but not the second, in neither, as a count over the list of s
 --     length_ascending      the list of the members is as long as the set
--- The ruleset `counting` has those that a tactic can apply by itself.
-use Rattle.std.proofs.Common.{◌≡◌, ◌≤◌, ◌<◌, ◌+◌, ◌-◌, ℕ, suc, zero, Bool, true, false, cond, not, ◌&&◌, ◌||◌, List, [], ◌∷◌, length, filter, count_by, refl, sym, ap, subst, ◌∙◌, arith, ◌↔◌, ◌==◌}
+-- The ruleset `counting` has the ones for a tactic.
+use Rattle.std.proofs.Common.{◌≡◌, ◌≤◌, ◌<◌, ◌+◌, ◌-◌, ℕ, suc, zero, Bool, true, false, cond, not, ◌&&◌, List, [], ◌∷◌, length, filter, count_by, refl, sym, ap, subst, ◌∙◌, arith, ◌↔◌, ◌==◌}
 use Rattle.std.proofs.lemmas.Bool.Decides.{nat_tests, same_from_decides}
 use Rattle.std.proofs.lemmas.List.Sums.{length-filter}
 use Rattle.enumset_repr.specs.BitSet.{BitSet, is_in, contains, ascending, len, is_empty, empty, insert, only, remove, retain, union, intersection, difference, is_subset, is_disjoint, is_same, below}
 use Rattle.std.proofs.lemmas.List.Filters.{length-filter_both}
-use Rattle.enumset_repr.specs.Laws.Members.{contains_empty, contains_retain, contains_union, contains_ascending, contains_intersection, contains_difference, contains_below, is_subset_iff, is_disjoint_iff}
-use Rattle.enumset_repr.specs.Laws.Algebra.{intersection_comm, intersection_assoc, intersection_within, intersection_apart, intersection_over_union, union_difference, union_within}
+use Rattle.enumset_repr.specs.Laws.Members.{contains_empty, contains_retain, contains_ascending, contains_below, is_subset_iff, is_disjoint_iff}
+use Rattle.enumset_repr.specs.Laws.Algebra.{intersection_comm, intersection_within, intersection_apart, intersection_over_union, union_difference, union_within}
 use Rattle.enumset_repr.specs.Rules.Members.{decided}
 use Rattle.enumset_repr.specs.Laws.Ascending.{AscendsFrom, ascends_lower, ascending_ascends, ascending_is, len_ascending, len_below, len_empty, len_insert, len_remove, empty_of_len, is_empty_iff}
 
@@ -119,7 +116,7 @@ len_union_most s t = omega (arith, len_union s t)
 pub len_disjoint_union : (s t : BitSet) → is_disjoint s t ≡ true → len (union s t) ≡ len s + len t
 len_disjoint_union s t apart = omega (arith, len_union s t, ap len (intersection_apart s t apart), len_empty)
 
--- the complement of s within v
+-- s and its complement within v have together as many members as v
 pub len_complement : (v s : BitSet) → is_subset s v ≡ true → len (difference v s) + len s ≡ len v
 len_complement v s within = omega (arith, len_parts v s, ap len (intersection_comm v s ∙ intersection_within s v within))
 
@@ -166,27 +163,8 @@ kept_count s t = ap length (sym (ascending_intersection s t)) ∙ sym (len_ascen
 pub left_count : (s t : BitSet) → length (filter (λ b. not (contains t b)) (ascending s)) ≡ len (difference s t)
 left_count s t = ap length (sym (ascending_difference s t)) ∙ sym (len_ascending (difference s t))
 
-pub len_kept : (s t : BitSet) → len (intersection s t) ≡ count_by (contains t) (ascending s)
-len_kept s t = sym (kept_count s t) ∙ length-filter (contains t) (ascending s)
-
-pub len_left : (s t : BitSet) → len (difference s t) ≡ count_by (λ b. not (contains t b)) (ascending s)
-len_left s t = sym (left_count s t) ∙ length-filter (λ b. not (contains t b)) (ascending s)
-
-pub len_kept_both : (s t u : BitSet) → len (intersection (intersection s t) u) ≡ count_by (λ b. contains t b && contains u b) (ascending s)
-len_kept_both s t u = ap len (intersection_assoc s t u) ∙ len_kept s (intersection t u) ∙ ap (λ (p : ℕ → Bool). count_by p (ascending s)) (λ i b. contains_intersection t u b i)
-
-pub len_kept_either : (s t u : BitSet) → len (intersection s (union t u)) ≡ count_by (λ b. contains t b || contains u b) (ascending s)
-len_kept_either s t u = len_kept s (union t u) ∙ ap (λ (p : ℕ → Bool). count_by p (ascending s)) (λ i b. contains_union t u b i)
-
-pub len_kept_but : (s t u : BitSet) → len (difference (intersection s t) u) ≡ count_by (λ b. contains t b && not (contains u b)) (ascending s)
-len_kept_but s t u = ap len (grind (arith, decided)) ∙ len_kept s (difference t u) ∙ ap (λ (p : ℕ → Bool). count_by p (ascending s)) (λ i b. contains_difference t u b i)
-
-pub len_left_both : (s t u : BitSet) → len (difference s (union t u)) ≡ count_by (λ b. not (contains t b) && not (contains u b)) (ascending s)
-len_left_both s t u = len_left s (union t u) ∙ ap (λ (p : ℕ → Bool). count_by p (ascending s)) (λ i b. outside b i) where
-  outside : (b : ℕ) → not (contains (union t u) b) ≡ (not (contains t b) && not (contains u b))
-  outside b = grind (arith, contains_union t u b)
-
 pub length_ascending : (s : BitSet) → length (ascending s) ≡ len s
 length_ascending s = sym (len_ascending s)
 
+-- what it proves: equations of counts, by rewriting
 pub ruleset counting = (len_empty, len_parts, len_union, len_intersection, len_intersection_right, len_difference, len_subset, len_proper, len_apart, len_zero_iff, len_inserted, len_removed, len_below, kept_count, left_count, length_ascending)

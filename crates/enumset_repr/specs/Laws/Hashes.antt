@@ -1,18 +1,17 @@
--- What numbers feed to a hasher: different numbers of one width feed different bytes, and different lists of words of
--- one length feed different lists of bytes.
---     same_bytes      numbers with the same k lowest bytes are equal, if they have no more
+-- What numbers feed to a hasher: different numbers of one width feed different bytes, and different lists of equally
+-- many words feed different lists of bytes.
+--     same_bytes      numbers with the same k lowest bytes are equal, if they have no more bytes
 --     same_words      lists of words that feed the same are equal, if they have the same length
 --     byte_hash, integer_hash      integers that feed the same are equal: of one byte;  of more bytes
-use Rattle.std.proofs.Common.{◌≡◌, ◌<◌, ℕ, suc, zero, ◌+◌, ◌*◌, ◌/◌, ◌%◌, ◌^◌, List, [], ◌∷◌, length, slice_index, refl, sym, ap, ◌∙◌, arith, pow-suc, subst, IsTrue}
+use Rattle.std.proofs.Common.{◌≡◌, ◌<◌, ℕ, suc, zero, ◌+◌, ◌*◌, ◌/◌, ◌%◌, ◌^◌, List, [], ◌∷◌, length, slice_index, refl, sym, ap, ◌∙◌, arith, pow-suc, subst}
 use Rattle.std.proofs.Math.Arith.{mod-mul}
 use Rattle.std.proofs.Math.Nat.{div-div-eq-div-mul, mod-eq_of_lt}
 use Rattle.std.specs.Hash.{le_bytes}
 use Rattle.std.specs.Hash as fed
 use Rattle.std.specs.Int.{byte_at, bytes_low_first}
 use Rattle.std.specs.List.{flat_map}
-use Rattle.enumset_repr.specs.BitSet.{below, is_subset}
 use Rattle.enumset_repr.specs.Laws.Integers.{below_power}
-use Rattle.enumset_repr.specs.Number.{bits}
+use Rattle.enumset_repr.specs.Number.{IsInteger}
 
 positive : (k : ℕ) → 0 < 256 ^ k
 positive zero = omega arith
@@ -40,12 +39,12 @@ same_bytes_from i (suc k) n m same =
     let later = same_bytes_from (suc i) k n m others in
     one_byte_more i k n ∙ ap (λ r. r * 256 + byte_at i n) later ∙ ap (λ b. (m / 256 ^ suc i % 256 ^ k) * 256 + b) first ∙ sym (one_byte_more i k m)
 
--- numbers of k bytes are equal if their bytes are
+-- numbers of k bytes are equal if they have the same bytes
 pub same_bytes : (k n m : ℕ) → n < 256 ^ k → m < 256 ^ k → le_bytes k n ≡ le_bytes k m → n ≡ m
 unfolding le_bytes
 same_bytes k n m fits also same = sym (whole k n fits) ∙ same_bytes_from 0 k n m same ∙ whole k m also
 
--- lists of words of one length are equal if what they feed is
+-- lists of equally many words are equal if they feed the same
 pub same_words : (us ws : List ℕ) → length us ≡ length ws → ((i : ℕ) → slice_index us i < 2 ^ 64) → ((i : ℕ) → slice_index ws i < 2 ^ 64) → flat_map fed.u64 us ≡ flat_map fed.u64 ws → us ≡ ws
 same_words [] [] long fit also same = refl
 same_words [] (w ∷ ws) long fit also same = absurd (omega (arith, long))
@@ -57,12 +56,12 @@ same_words (u ∷ us) (w ∷ ws) long fit also same =
     let later = same_words us ws (omega (arith, long)) (λ i. fit (suc i)) (λ i. also (suc i)) others in
     λ i. here i ∷ later i
 
--- an integer of one byte
+-- integers of one byte are equal if they feed the same
 pub byte_hash : (a b : ℕ) → fed.u8 a ≡ fed.u8 b → a ≡ b
 byte_hash a b same = cc
 
--- an integer of k bytes, which have w bits
-pub integer_hash : (k w : ℕ) → 2 ^ w ≡ 256 ^ k → (a b : ℕ) → IsTrue (is_subset (bits a) (below w)) → IsTrue (is_subset (bits b) (below w)) → le_bytes k a ∷ [] ≡ le_bytes k b ∷ [] → a ≡ b
+-- the same for integers of k bytes, which have w bits
+pub integer_hash : (k w : ℕ) → 2 ^ w ≡ 256 ^ k → (a b : ℕ) → IsInteger w a → IsInteger w b → le_bytes k a ∷ [] ≡ le_bytes k b ∷ [] → a ≡ b
 integer_hash k w wide a b fits also same =
     let bytes : le_bytes k a ≡ le_bytes k b = cc in
     same_bytes k a b (subst (λ m. a < m) wide (below_power w a fits)) (subst (λ m. b < m) wide (below_power w b also)) bytes

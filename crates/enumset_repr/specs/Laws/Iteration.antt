@@ -4,17 +4,12 @@
 --     all_not_any      all pass exactly if none fails
 --     is_subset_list, is_disjoint_list      a subset and disjoint sets as tests of a list
 --     read_in, at_place      the number at a place of a list is in it;  of a set's list, a member
---     some_passes, some_fails      a test passes, or fails, for some number of a list exactly if it does at some place
---     some_shared, some_outside      two sets are not disjoint, or one is not a subset of the other, exactly if such a
---         member is at some place
--- The rulesets for loops and chains over a set's iterator are in `Rules/Iteration.antt`.
-use Rattle.std.proofs.Common.{◌≡◌, ℕ, Bool, cond, not, ◌&&◌, ◌||◌, List, [], ◌∷◌, Some, refl, arith, find, ◌<◌, suc, zero, true, false, length, sym, ap, ◌∙◌, ◌↔◌, ◌==◌, SomeIndex, slice_index, slice_index_or, eq-eqb}
+-- The ruleset for loops over a set's iterator is in `Rules/Iteration.antt`.
+use Rattle.std.proofs.Common.{◌≡◌, ℕ, Bool, cond, not, ◌&&◌, ◌||◌, List, [], ◌∷◌, Some, refl, arith, find, ◌<◌, suc, zero, true, length, ◌∙◌, ◌==◌, slice_index_or, eq-eqb}
 use Rattle.std.proofs.lemmas.Bool.Decides.{nat_tests}
 use Rattle.std.specs.List.{list_any, list_all}
 use Rattle.enumset_repr.specs.BitSet.{BitSet, contains, ascending, is_subset, is_disjoint, is_in}
-use Rattle.std.proofs.lemmas.Bool.{not-true, or_left, or_right}
-use Rattle.std.proofs.lemmas.List.{get_or_default}
-use Rattle.std.proofs.lemmas.List.Folds.{Any-from_list_any, list_any_at}
+use Rattle.std.proofs.lemmas.Bool.{or_left, or_right}
 use Rattle.enumset_repr.specs.Laws.Members.{contains_ascending}
 
 pub find_next : (p : ℕ → Bool) (b : ℕ) (bs : List ℕ) → find p (b ∷ bs) ≡ cond (p b) (Some b) (find p bs)
@@ -52,26 +47,3 @@ read_in (suc k) d (x ∷ xs) within = or_right (slice_index_or xs k d == x) _ (r
 
 pub at_place : (s : BitSet) (k d : ℕ) → k < length (ascending s) → contains s (slice_index_or (ascending s) k d) ≡ true
 at_place s k d within = contains_ascending s _ ∙ read_in k d (ascending s) within
-
--- ---- tests of the numbers of a list
-
-pub some_passes : (p : ℕ → Bool) (xs : List ℕ) → (list_any p xs ≡ true) ↔ SomeIndex xs (λ k. p (slice_index xs k) ≡ true)
-some_passes p xs = (
-  λ one. let at = Any-from_list_any p xs one in (at.0, at.2, ap p (sym (get_or_default xs at.0 at.1 0 at.2) ∙ at.3) ∙ at.4),
-  λ some. list_any_at p xs some.0 0 some.1 some.2,
-)
-
-pub some_fails : (p : ℕ → Bool) (xs : List ℕ) → (list_all p xs ≡ false) ↔ SomeIndex xs (λ k. p (slice_index xs k) ≡ false)
-some_fails p xs = (
-  λ none. let some = (some_passes (λ b. not (p b)) xs).0 (grind (arith, all_not_any p xs)) in (some.0, some.1, not-true _ some.2),
-  λ some. let one = list_any_at (λ b. not (p b)) xs some.0 0 some.1 (ap not some.2) in grind (arith, all_not_any p xs),
-)
-
-pub some_shared : (s t : BitSet) → (is_disjoint s t ≡ false) ↔ SomeIndex (ascending s) (λ k. contains t (slice_index (ascending s) k) ≡ true)
-some_shared s t =
-    let some = some_passes (contains t) (ascending s) in
-    (λ none. some.0 (grind (arith, is_disjoint_list s t)), λ at. let one = some.1 at in grind (arith, is_disjoint_list s t))
-
-pub some_outside : (s t : BitSet) → (is_subset s t ≡ false) ↔ SomeIndex (ascending s) (λ k. contains t (slice_index (ascending s) k) ≡ false)
-unfolding is_subset
-some_outside s t = some_fails (contains t) (ascending s)

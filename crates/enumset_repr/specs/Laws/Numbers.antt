@@ -1,6 +1,7 @@
 -- The set of a number, and what the operations on numbers do to it. Each law holds for every width or place.
 --     contains_bits, bits_.., len_bits      the set of a number, and of the result of an operator
 --     bits_number, number_bits      from a set to its number and back;  from a number to its set and back
+--     bits_integer      from a set to the integer that represents it and back
 --     same_number      numbers with the same bits are equal
 --     least_bits, greatest_bits      `trailing_zeros` and `leading_zeros`
 --     bits_full      a number of n ones
@@ -16,7 +17,7 @@ use Rattle.std.specs.Int.{bit_at, ◌∣◌}
 use Rattle.std.specs.Int.Count.{count_trailing_zeros, count_leading_zeros, under, leading_top, ones_cat}
 use Rattle.std.specs.Int.RustNames.{count_ones}
 use Rattle.enumset_repr.specs.BitSet.{is_in, BitSet, contains, ascending, len, is_empty, empty, insert, only, remove, union, intersection, difference, symmetric_difference, is_subset, below, low}
-use Rattle.enumset_repr.specs.Number.{number, bits}
+use Rattle.enumset_repr.specs.Number.{number, bits, integer_of}
 use Rattle.enumset_repr.specs.Laws.Members.{same_set, contains_empty, contains_ascending, contains_retain, contains_remove, contains_insert, contains_union, contains_intersection, contains_difference, contains_symmetric_difference, contains_below, contains_low, is_subset_contains, contains_is_subset, union_only, difference_only}
 use Rattle.enumset_repr.specs.Laws.Algebra.{intersection_difference}
 use Rattle.enumset_repr.specs.Laws.Ascending.{AscendsFrom, ascending_ascends, ascending_empty, is_in_below, len_ascending, is_empty_iff}
@@ -39,7 +40,7 @@ bits_is n s is = same_set (bits n) s (λ q. contains_bits n q ∙ is q)
 pub bits_within : (n w : ℕ) → n < 2 ^ w → is_subset (bits n) (below w) ≡ true
 bits_within n w fits = contains_is_subset (bits n) (below w) (λ q one. let none = bit_at_above n w q fits in grind (arith, nat_tests, contains_bits n q, contains_below w q))
 
--- ---- the worth of a list: the sum of the powers of two at its numbers
+-- ---- the worth of a list: the sum of 2 ^ b over its numbers b
 
 worth : List ℕ → ℕ
 worth xs = sum_by (λ b. 2 ^ b) xs
@@ -74,7 +75,7 @@ worth-parts k x xs ascends =
 pow_bit : (k q : ℕ) → (bit_at (2 ^ k) q == 1) ≡ (q == k)
 pow_bit k q = let same = bit_at-pow_same k in let other = bit_at-pow_other k q in grind (arith, nat_tests)
 
--- the bits of a list's worth are its numbers
+-- the bits of an ascending list's worth are the numbers of the list
 worth-bit : (k : ℕ) (xs : List ℕ) → AscendsFrom k xs → (q : ℕ) → (bit_at (worth xs) q == 1) ≡ is_in q xs
 unfolding worth
 worth-bit k [] ascends q = ap (λ d. d == 1) (bit_at-zero q)
@@ -89,7 +90,7 @@ worth-bit k (x ∷ xs) ascends q =
           ∙ ap (λ n. bit_at n q == 1) (sym parts.1) ∙ worth-bit (suc x) xs ascends.1 q ∙ grind (arith, nat_tests, over)
     ]
 
--- a list's worth has as many bits set as the list has numbers
+-- the worth of an ascending list has as many ones as the list has numbers
 worth-ones : (k : ℕ) (xs : List ℕ) → AscendsFrom k xs → count_ones (worth xs) ≡ length xs
 unfolding worth count_ones
 worth-ones k [] ascends = refl
@@ -136,6 +137,10 @@ pub bits_number : (s : BitSet) → bits (number s) ≡ s
 unfolding number worth
 bits_number s = bits_is (number s) s (λ q. worth-bit 0 (ascending s) (ascending_ascends s) q ∙ sym (contains_ascending s q))
 
+pub bits_integer : (s : BitSet) → bits (integer_of s) ≡ s
+unfolding integer_of
+bits_integer s = bits_number s
+
 pub number_bits : (n : ℕ) → number (bits n) ≡ n
 number_bits n = same_from_bits (number (bits n)) n (λ q.
     let same = ap (λ s. contains s q) (bits_number (bits n)) in grind (arith, nat_tests, bit_at-lt (number (bits n)) q, bit_at-lt n q, contains_bits (number (bits n)) q, contains_bits n q))
@@ -151,11 +156,11 @@ number-empty = ap (sum_by (λ b. 2 ^ b)) ascending_empty
 pub bits_empty : (n : ℕ) → bits n ≡ empty → n ≡ 0
 bits_empty n none = sym (number_bits n) ∙ ap number none ∙ number-empty
 
--- `n == 0`
+-- `n == 0` says that the set is empty
 pub bits_is_empty : (n : ℕ) → (n == 0) ≡ is_empty (bits n)
 bits_is_empty n = same_from_decides _ _ (λ zero. ap bits (eqb-true n 0 zero) ∙ bits_zero, λ none. eq-eqb n 0 (bits_empty n none)) (is_empty_iff (bits n))
 
--- `n.count_ones()`
+-- `n.count_ones()` is the number of members
 pub len_bits : (n : ℕ) → len (bits n) ≡ count_ones n
 unfolding number worth
 len_bits n = len_ascending (bits n) ∙ sym (worth-ones 0 (ascending (bits n)) (ascending_ascends (bits n))) ∙ ap count_ones (number_bits n)
@@ -168,7 +173,7 @@ bits_and_not w a b fits_a fits_b = bits_and a _ ∙ ap (intersection (bits a)) (
 pub bits_pow : (k : ℕ) → bits (2 ^ k) ≡ only k
 bits_pow k = bits_is _ _ (λ q. pow_bit k q ∙ grind (arith, nat_tests, contains_insert empty k q, contains_empty q))
 
--- `1 << k`
+-- `1 << k` represents the set of k alone
 pub bits_one_shifted : (w k : ℕ) → k < w → bits (1 * 2 ^ k % 2 ^ w) ≡ only k
 bits_one_shifted w k within = ap bits (one_shl k w within) ∙ bits_pow k
 
@@ -208,7 +213,7 @@ unfolding count_trailing_zeros
 lowest_set zero n some fits = absurd (omega arith)
 lowest_set (suc w) n some fits = lowest_by w n (count_trailing_zeros w (n / 2)) (n % 2) refl some (λ rest. lowest_set w (n / 2) rest (omega (arith, pow-suc 2 w)))
 
--- `n & (n - 1)`
+-- `n & (n - 1)` removes the least member
 pub bits_clear_least : (w n : ℕ) → 0 < n → n < 2 ^ w → bits (bit_and n (n - 1)) ≡ remove (bits n) (count_trailing_zeros w n)
 unfolding IsLowest
 bits_clear_least w n some fits =
@@ -248,7 +253,7 @@ greatest_bits w n some fits =
 
 -- ---- the low bits, and those from a place on
 
--- `n % 2 ^ k`
+-- `n % 2 ^ k` has the members below k
 pub bits_low : (n k : ℕ) → bits (n % 2 ^ k) ≡ low (bits n) k
 bits_low n k = bits_is _ _ (λ q.
     let under = bit_at_cat_low (n / 2 ^ k) k (n % 2 ^ k) q in

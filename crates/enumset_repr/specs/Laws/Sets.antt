@@ -4,15 +4,13 @@
 --     difference_insert_all, difference_remove_all      inserting or removing a subset of t does not change s outside t
 --     difference_parts, symmetric_parts      the parts of s outside t and inside t;  a symmetric difference
 --     difference_shared      s without the members that it shares with t
---     difference_over_..      one operation over another
+--     difference_over_..      what is left of a union, and of an intersection, outside a set
 --     is_subset_union      a union is a subset exactly if both sets are
 --     len_symmetric_difference      how many members are in exactly one of two sets
---     len_regrouped      how many members are in all of three sets, grouped the other way
 --     complement_..      the difference of a set v and a set with members outside v
 use Rattle.std.proofs.Common.{◌≡◌, ◌+◌, ◌*◌, ℕ, true, false, ◌&&◌, ap, arith}
 use Rattle.enumset_repr.specs.BitSet.{BitSet, contains, len, empty, insert, remove, union, intersection, difference, symmetric_difference, is_subset}
 use Rattle.enumset_repr.specs.Rules.Members.{decided}
-use Rattle.enumset_repr.specs.Laws.Algebra.{intersection_assoc}
 use Rattle.enumset_repr.specs.Laws.Counting.{len_parts, len_union}
 
 -- ---- one number
@@ -52,9 +50,6 @@ pub len_symmetric_difference : (s t : BitSet) → len (symmetric_difference s t)
 len_symmetric_difference s t =
     let inside : intersection (union s t) (intersection s t) ≡ intersection s t = grind (arith, decided) in
     omega (arith, len_union s t, len_parts (union s t) (intersection s t), ap len (symmetric_parts s t), ap len inside)
-
-pub len_regrouped : (s t u : BitSet) → len (intersection (intersection s t) u) ≡ len (intersection s (intersection t u))
-len_regrouped s t u = ap len (intersection_assoc s t u)
 
 -- ---- subsets and disjoint sets
 

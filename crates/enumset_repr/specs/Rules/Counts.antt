@@ -4,10 +4,11 @@
 --     len_of_..      how many members a union, an intersection, a difference and the like have
 --     len_of_part, len_of_apart      a subset has at most as many members, and with as many it is the whole set;  of
 --         subsets of one set, those that are disjoint have together at most as many
---     len_of_only      the first member of a set of one is the only one
+--     len_of_only      the first member of a set of one member is the only one
 --     len_picked      how many of the numbers that are listed are members, one number after another
--- The ruleset `counts` has all of them but `len_of_apart`, which `counts_of_parts` has. The value of each set brings a
--- fact `is_subset`, so what a subset says of counts is used only where the members of both sets are counted.
+-- The ruleset `counts` has all of them but `len_of_apart`, which `counts_of_parts` has. Each `EnumSet` brings the fact
+-- that it is a subset of the valid bits, so what a subset says of counts is used only where the members of both sets
+-- are counted.
 use Rattle.std.proofs.Common.{◌≡◌, ◌↔◌, ◌≤◌, ◌+◌, ◌*◌, ℕ, Bool, true, false, not, ◌&&◌, cond, arith, refl, sym, ap, ◌∙◌, ◌==◌, Option, Some, None, MatchOption}
 use Rattle.std.proofs.lemmas.Bool.Decides.{nat_tests}
 use Rattle.enumset_repr.specs.BitSet.{BitSet, contains, empty, insert, only, union, intersection, difference, symmetric_difference, is_subset, is_disjoint, is_empty, len}
@@ -41,20 +42,37 @@ disjoint_len s t = (λ apart. let e : intersection s t ≡ empty = grind (arith,
 pub len_none : (s : BitSet) → (len s ≡ len s) × ((len s ≡ 0) ↔ (s ≡ empty))
 len_none s = (refl, len_zero_iff s)
 
-pub len_of_union : (s t : BitSet) → (len (union s t) ≡ len (union s t)) × (len (union s t) + len (intersection s t) ≡ len s + len t) × ((is_disjoint s t ≡ true) ↔ (len (intersection s t) ≡ 0))
-len_of_union s t = (refl, len_union s t, disjoint_len s t)
+-- The rules for what operations return apply where the members of an argument, or of the other part, are counted too.
+-- Without this each count would bring four more sets into sight, to be read at each number.
+pub len_of_union : (s t : BitSet) (w : Bool) → (len (union s t) ≡ len (union s t)) × (counted s w ≡ counted s w) × (len (union s t) + len (intersection s t) ≡ len s + len t) × ((is_disjoint s t ≡ true) ↔ (len (intersection s t) ≡ 0))
+len_of_union s t w = (refl, refl, len_union s t, disjoint_len s t)
 
-pub len_of_difference : (s t : BitSet) → (len (difference s t) ≡ len (difference s t)) × (len (difference s t) + len (intersection s t) ≡ len s)
-len_of_difference s t = (refl, len_parts s t)
+pub len_of_union_right : (s t : BitSet) (w : Bool) → (len (union s t) ≡ len (union s t)) × (counted t w ≡ counted t w) × (len (union s t) + len (intersection s t) ≡ len s + len t) × ((is_disjoint s t ≡ true) ↔ (len (intersection s t) ≡ 0))
+len_of_union_right s t w = (refl, refl, len_union s t, disjoint_len s t)
 
-pub len_of_intersection : (s t : BitSet) → (len (intersection s t) ≡ len (intersection s t)) × (intersection s t ≡ intersection t s) × (len (difference s t) + len (intersection s t) ≡ len s) × (len (difference t s) + len (intersection s t) ≡ len t)
-len_of_intersection s t = (refl, intersection_comm s t, len_parts s t, let e = ap len (intersection_comm s t) in omega (arith, len_parts t s, e))
+pub len_of_difference : (s t : BitSet) (w : Bool) → (len (difference s t) ≡ len (difference s t)) × (counted s w ≡ counted s w) × (len (difference s t) + len (intersection s t) ≡ len s)
+len_of_difference s t w = (refl, refl, len_parts s t)
 
-pub len_of_symmetric_difference : (s t : BitSet) → (len (symmetric_difference s t) ≡ len (symmetric_difference s t)) × (len (symmetric_difference s t) + 2 * len (intersection s t) ≡ len s + len t)
-len_of_symmetric_difference s t = (refl, len_symmetric_difference s t)
+pub len_of_both_parts : (s t : BitSet) → (len (difference s t) ≡ len (difference s t)) × (len (intersection s t) ≡ len (intersection s t)) × (len (difference s t) + len (intersection s t) ≡ len s)
+len_of_both_parts s t = (refl, refl, len_parts s t)
 
-pub len_union_covers : (s t : BitSet) → (len (union s t) ≡ len (union s t)) × (len (union s t) ≡ len s → is_subset t s ≡ true) × (is_subset t s ≡ true → len (union s t) ≡ len s)
-len_union_covers s t = (refl, (λ e. let h = len_union_same s t in grind (arith, nat_tests)), (λ e. let h = len_union_same s t in grind (arith, nat_tests)))
+pub len_of_intersection : (s t : BitSet) (w : Bool) → (len (intersection s t) ≡ len (intersection s t)) × (counted s w ≡ counted s w) × (len (difference s t) + len (intersection s t) ≡ len s)
+len_of_intersection s t w = (refl, refl, len_parts s t)
+
+pub len_of_intersection_right : (s t : BitSet) (w : Bool) → (len (intersection s t) ≡ len (intersection s t)) × (counted t w ≡ counted t w) × (len (difference t s) + len (intersection s t) ≡ len t)
+len_of_intersection_right s t w = (refl, refl, let e = ap len (intersection_comm s t) in omega (arith, len_parts t s, e))
+
+pub len_of_intersection_turned : (s t : BitSet) → (len (intersection s t) ≡ len (intersection s t)) × (intersection t s ≡ intersection t s) × (intersection s t ≡ intersection t s)
+len_of_intersection_turned s t = (refl, refl, intersection_comm s t)
+
+pub len_of_symmetric_difference : (s t : BitSet) (w : Bool) → (len (symmetric_difference s t) ≡ len (symmetric_difference s t)) × (counted s w ≡ counted s w) × (len (symmetric_difference s t) + 2 * len (intersection s t) ≡ len s + len t)
+len_of_symmetric_difference s t w = (refl, refl, len_symmetric_difference s t)
+
+pub len_of_symmetric_difference_right : (s t : BitSet) (w : Bool) → (len (symmetric_difference s t) ≡ len (symmetric_difference s t)) × (counted t w ≡ counted t w) × (len (symmetric_difference s t) + 2 * len (intersection s t) ≡ len s + len t)
+len_of_symmetric_difference_right s t w = (refl, refl, len_symmetric_difference s t)
+
+pub len_union_covers : (s t : BitSet) (w : Bool) → (len (union s t) ≡ len (union s t)) × (counted s w ≡ counted s w) × (len (union s t) ≡ len s → is_subset t s ≡ true) × (is_subset t s ≡ true → len (union s t) ≡ len s)
+len_union_covers s t w = (refl, refl, (λ e. let h = len_union_same s t in grind (arith, nat_tests)), (λ e. let h = len_union_same s t in grind (arith, nat_tests)))
 
 -- ---- subsets and disjoint sets, where both are counted
 
@@ -71,7 +89,7 @@ only_member s b one single =
     let within : is_subset (only b) s ≡ true = grind (arith, decided) in
     sym (subset_equality (only b) s within (len_only b ∙ sym single))
 
--- the first member of a set of one is the only one
+-- the first member of a set of one member is the only one
 pub len_of_only : (s t : BitSet) (w : Bool) → (least s ≡ least s) × (counted t w ≡ counted t w) × MatchOption (least s) (s ≡ empty) (λ m. len s ≡ 1 → s ≡ only m)
 len_of_only s t w = (refl, refl, by (least s) (least_in s).1) where
   by : (o : Option ℕ) → MatchOption o (s ≡ empty) (λ m. contains s m ≡ true) → MatchOption o (s ≡ empty) (λ m. len s ≡ 1 → s ≡ only m)
@@ -94,7 +112,9 @@ len_picked s t b = picked s t b (contains s b) (contains t b) refl refl
 pub len_picked_none : (s : BitSet) → len (intersection s empty) ≡ 0
 len_picked_none s = ap len (intersection_empty s) ∙ len_empty
 
-pub ruleset counts = (len_of_union, len_of_difference, len_of_intersection, len_of_symmetric_difference, len_insert, len_remove, len_none, counted_at, empty_len, len_union_covers, len_of_part, len_of_only, len_picked, len_picked_none)
+-- what it proves: how many members a union, a difference, a subset and the like have
+pub ruleset counts = (len_of_union, len_of_union_right, len_of_difference, len_of_both_parts, len_of_intersection, len_of_intersection_right, len_of_intersection_turned, len_of_symmetric_difference, len_of_symmetric_difference_right, len_insert, len_remove, len_none, counted_at, empty_len, len_union_covers, len_of_part, len_of_only, len_picked, len_picked_none)
 
 -- not at the root of a crate, since it compares each two disjoint sets with the valid bits
+-- what it proves: that disjoint subsets of one set have together at most as many members as this set
 pub ruleset counts_of_parts = (counted_at, len_of_apart)

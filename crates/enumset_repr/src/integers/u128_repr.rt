@@ -1,12 +1,12 @@
 //! `u128` as a representation of 128 bits.
 
-ghost use Rattle.std.specs.Prelude.{IsTrue, refl};
+ghost use Rattle.std.specs.Prelude.{refl};
 ghost use Rattle.std.specs.Int.{w128};
 ghost use Rattle.enumset_repr.specs.BitSet as set;
-ghost use Rattle.enumset_repr.specs.Number.{bits, number};
+ghost use Rattle.enumset_repr.specs.Number.{bits, bits_listed, integer_of, IsInteger};
 ghost use Rattle.enumset_repr.specs.Laws.Hashes.{integer_hash};
-ghost use Rattle.enumset_repr.specs.Laws.Integers.{by_number, integer_operators};
-ghost use Rattle.enumset_repr.specs.Laws.Representations.{by_list, no_asks};
+ghost use Rattle.enumset_repr.specs.Laws.Integers.{by_integer, integer_operators};
+ghost use Rattle.enumset_repr.specs.Laws.Representations.{by_bits, no_asks};
 
 use crate::injective_hash::InjectiveHash;
 use crate::primitive::Primitive;
@@ -42,13 +42,13 @@ impl Primitive for u128 {
     }
 }
 
-#[tactic(auto, using(crate::specs::Laws::Integers::on_integers))]
+#[tactic(auto, using(crate::specs::Laws::Integers::on_integers), unfolding(crate::specs::Number::IsInteger, crate::specs::Number::bits_listed))]
 impl EnumSetTypeRepr for u128 {
     ghost members = { bits };
 
-    ghost of_members = { number };
+    ghost of_members = { integer_of };
 
-    ghost is_value = { λ n. IsTrue (set.is_subset (bits n) (set.below 128)) };
+    ghost is_value = { IsInteger 128 };
 
     ghost PREFERRED_ARRAY_LEN = { 2 };
 
@@ -64,7 +64,7 @@ impl EnumSetTypeRepr for u128 {
 
     type Iter = PrimitiveIter<u128>;
 
-    ghost rest = { λ i. set.ascending (bits i.0) };
+    ghost rest = { λ i. bits_listed i.0 };
 
     fn is_empty(&self) -> bool {
         *self == 0
@@ -103,11 +103,11 @@ impl EnumSetTypeRepr for u128 {
         *self = *self & !((u64::MAX as u128) << place) | (w as u128) << place;
     }
 
-    ghost represents = { by_number 128 };
+    ghost represents = { by_integer 128 };
 
     ghost operators = { integer_operators w128 };
 
-    ghost listed = { by_list };
+    ghost listed = { by_bits (λ i. i.0) };
 
     ghost counts = { no_asks };
 }

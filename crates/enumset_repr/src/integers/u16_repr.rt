@@ -1,12 +1,12 @@
 //! `u16` as a representation of 16 bits.
 
-ghost use Rattle.std.specs.Prelude.{IsTrue, refl};
+ghost use Rattle.std.specs.Prelude.{refl};
 ghost use Rattle.std.specs.Int.{w16};
 ghost use Rattle.enumset_repr.specs.BitSet as set;
-ghost use Rattle.enumset_repr.specs.Number.{bits, number};
+ghost use Rattle.enumset_repr.specs.Number.{bits, bits_listed, integer_of, IsInteger};
 ghost use Rattle.enumset_repr.specs.Laws.Hashes.{integer_hash};
-ghost use Rattle.enumset_repr.specs.Laws.Integers.{by_number, integer_operators};
-ghost use Rattle.enumset_repr.specs.Laws.Representations.{by_list, no_asks};
+ghost use Rattle.enumset_repr.specs.Laws.Integers.{by_integer, integer_operators};
+ghost use Rattle.enumset_repr.specs.Laws.Representations.{by_bits, no_asks};
 
 use crate::injective_hash::InjectiveHash;
 use crate::primitive::Primitive;
@@ -42,13 +42,13 @@ impl Primitive for u16 {
     }
 }
 
-#[tactic(auto, using(crate::specs::Laws::Integers::on_integers))]
+#[tactic(auto, using(crate::specs::Laws::Integers::on_integers), unfolding(crate::specs::Number::IsInteger, crate::specs::Number::bits_listed))]
 impl EnumSetTypeRepr for u16 {
     ghost members = { bits };
 
-    ghost of_members = { number };
+    ghost of_members = { integer_of };
 
-    ghost is_value = { λ n. IsTrue (set.is_subset (bits n) (set.below 16)) };
+    ghost is_value = { IsInteger 16 };
 
     ghost PREFERRED_ARRAY_LEN = { 1 };
 
@@ -64,7 +64,7 @@ impl EnumSetTypeRepr for u16 {
 
     type Iter = PrimitiveIter<u16>;
 
-    ghost rest = { λ i. set.ascending (bits i.0) };
+    ghost rest = { λ i. bits_listed i.0 };
 
     fn is_empty(&self) -> bool {
         *self == 0
@@ -99,16 +99,16 @@ impl EnumSetTypeRepr for u16 {
     }
 
     fn put_word(&mut self, _i: usize, w: u64) {
-        // This read tells the proof that the old value fits.
+        // This read tells the proof that the old value is one of the type.
         let _old = *self;
         *self = (w & u16::MAX as u64) as u16;
     }
 
-    ghost represents = { by_number 16 };
+    ghost represents = { by_integer 16 };
 
     ghost operators = { integer_operators w16 };
 
-    ghost listed = { by_list };
+    ghost listed = { by_bits (λ i. i.0) };
 
     ghost counts = { no_asks };
 }

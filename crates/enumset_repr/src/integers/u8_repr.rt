@@ -3,10 +3,10 @@
 ghost use Rattle.std.specs.Prelude.{IsTrue};
 ghost use Rattle.std.specs.Int.{w8};
 ghost use Rattle.enumset_repr.specs.BitSet as set;
-ghost use Rattle.enumset_repr.specs.Number.{bits, number};
+ghost use Rattle.enumset_repr.specs.Number.{bits, bits_listed, integer_of, IsInteger};
 ghost use Rattle.enumset_repr.specs.Laws.Hashes.{byte_hash};
-ghost use Rattle.enumset_repr.specs.Laws.Integers.{by_number, integer_operators};
-ghost use Rattle.enumset_repr.specs.Laws.Representations.{by_list, no_asks};
+ghost use Rattle.enumset_repr.specs.Laws.Integers.{by_integer, integer_operators};
+ghost use Rattle.enumset_repr.specs.Laws.Representations.{by_bits, no_asks};
 
 use crate::injective_hash::InjectiveHash;
 use crate::primitive::Primitive;
@@ -42,13 +42,13 @@ impl Primitive for u8 {
     }
 }
 
-#[tactic(auto, using(crate::specs::Laws::Integers::on_integers))]
+#[tactic(auto, using(crate::specs::Laws::Integers::on_integers), unfolding(crate::specs::Number::IsInteger, crate::specs::Number::bits_listed))]
 impl EnumSetTypeRepr for u8 {
     ghost members = { bits };
 
-    ghost of_members = { number };
+    ghost of_members = { integer_of };
 
-    ghost is_value = { λ n. IsTrue (set.is_subset (bits n) (set.below 8)) };
+    ghost is_value = { IsInteger 8 };
 
     ghost PREFERRED_ARRAY_LEN = { 1 };
 
@@ -64,7 +64,7 @@ impl EnumSetTypeRepr for u8 {
 
     type Iter = PrimitiveIter<u8>;
 
-    ghost rest = { λ i. set.ascending (bits i.0) };
+    ghost rest = { λ i. bits_listed i.0 };
 
     fn is_empty(&self) -> bool {
         *self == 0
@@ -99,16 +99,16 @@ impl EnumSetTypeRepr for u8 {
     }
 
     fn put_word(&mut self, _i: usize, w: u64) {
-        // This read tells the proof that the old value fits.
+        // This read tells the proof that the old value is one of the type.
         let _old = *self;
         *self = (w & u8::MAX as u64) as u8;
     }
 
-    ghost represents = { by_number 8 };
+    ghost represents = { by_integer 8 };
 
     ghost operators = { integer_operators w8 };
 
-    ghost listed = { by_list };
+    ghost listed = { by_bits (λ i. i.0) };
 
     ghost counts = { no_asks };
 }
