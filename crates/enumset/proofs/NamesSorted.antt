@@ -13,7 +13,7 @@ use Rattle.std.specs.List.Sorted.{IsPermutation, IsSorted}
 use Rattle.std.specs.Ordering.{ordering_reverse}
 use Rattle.enumset_repr.specs.BitSet.{BitSet, ascending, from_list, is_in, is_subset}
 use Rattle.enumset_repr.specs.Laws.Ascending.{AscendsFrom, ascending_ascends, len_ascending}
-use Rattle.enumset_sets.specs.Laws.Elements.{AreBitsOf-ascending}
+use Rattle.enumset_sets.specs.Laws.Elements.{bits_are_listed}
 use Rattle.enumset.proofs.MapOrder.{Texts, by_bytes, by_bytes_total}
 use Rattle.enumset.proofs.NameLaws.{AreNames, name_back}
 use Rattle.enumset.proofs.NamesTaken.{same_key}
@@ -95,7 +95,7 @@ pub sorted_members : (bs : List ℕ) (names : List (List ℕ)) (s : BitSet) (ns 
 sorted_members bs names s ns sorted are within texts moved in_order =
     let all = zip bs names in
     let named = IsName all (ascending s) in
-    let bits = sym (map-map (bit_of all) (λ n. n.now) ns) ∙ ap (map (bit_of all)) texts ∙ bits_back bs names (ascending s) are (AreBitsOf-ascending bs (from_list bs) s refl within) in (
+    let bits = sym (map-map (bit_of all) (λ n. n.now) ns) ∙ ap (map (bit_of all)) texts ∙ bits_back bs names (ascending s) are (bits_are_listed bs (from_list bs) s refl within) in (
       rising all s ns sorted bits moved in_order,
       All-permutation (λ n. named n.now) ns sorted moved (All-from_recursion _ ns (each_text named ns (subst (AllByRecursion named) (sym texts) (named_among all (ascending s) (ascending s) (λ t i. i))))),
       omega (arith, length_permutation ns sorted moved, length-map ns (λ n. n.now), ap length texts, length-map (ascending s) (name_of all), len_ascending s),

@@ -16,7 +16,7 @@ use Rattle.enumset_repr.specs.BitSet.{BitSet, is_in, contains, intersection, fro
 use Rattle.enumset_repr.specs.Laws.Algebra.{from_list_ascending, insert_inside, empty_intersection, intersection_within}
 use Rattle.enumset_repr.specs.Laws.Members.{same_set, contains_from_list, contains_ascending, contains_is_subset, is_subset_contains, list_all_any, list_all_each}
 use Rattle.enumset_repr.specs.Laws.Sets.{intersection_insert}
-use Rattle.enumset_sets.specs.Laws.Elements.{AreBitsOf-ascending}
+use Rattle.enumset_sets.specs.Laws.Elements.{bits_are_listed}
 use Rattle.enumset.proofs.JsonLaws.{values_back}
 use Rattle.enumset.proofs.NameLaws.{AreNames, name_back, agree_at}
 use Rattle.enumset.specs.Json.{unless_fault}
@@ -105,7 +105,7 @@ each_written P names [] all done one within each = each
 each_written P names (b ∷ bs) all done one within each =
     each_written P names bs all (put (name_of names b) (boolean true) done) one (and_parts _ _ within).1 (each_put P (name_of names b) (boolean true) done (one b (and_parts _ _ within).0) each)
 
--- whether a name, or one of the names of members, has a bit
+-- whether q is the bit of a name;  of one of the names of members
 abbrev is_of : Names → ℕ → List ℕ → Bool
 is_of names q t = is_in q (cons_option (bit_named names t) [])
 
@@ -144,7 +144,7 @@ module _ (readers writers : Names) (valid : BitSet) (bs : List ℕ) (back : (b :
       let back = map-map string_in (λ b. string (name_of writers b)) (ascending s) in
       ap (set_of_values readers unknown) (values_back texts)
       ∙ (λ j. unless_fault NotAText ((position_from-zero is_no_string texts ∙ all_texts (name_of writers) 0 (ascending s)) j) (named_set readers unknown (back j) (back j)))
-      ∙ by_bits readers unknown (map (name_of writers) (ascending s)) ∙ ap (taken unknown) (bits_known (ascending s) (AreBitsOf-ascending bs (from_list bs) s refl within))
+      ∙ by_bits readers unknown (map (name_of writers) (ascending s)) ∙ ap (taken unknown) (bits_known (ascending s) (bits_are_listed bs (from_list bs) s refl within))
       ∙ accepted valid unknown s (ascending s) (from_list_ascending s)
 
   -- the name of one bit, with `true`
@@ -164,7 +164,7 @@ module _ (readers writers : Names) (valid : BitSet) (bs : List ℕ) (back : (b :
 
   pub map_read : (s : BitSet) (unknown : Unknown) → is_subset s (from_list bs) ≡ true → set_of_map readers unknown (map_value writers s) ≡ accepted_by_name valid unknown s (in_map writers s)
   map_read s unknown within =
-      let inside = AreBitsOf-ascending bs (from_list bs) s refl within in
+      let inside = bits_are_listed bs (from_list bs) s refl within in
       let ms = with_bits_true writers no_members (ascending s) in
       let each = each_written IsName writers (ascending s) bs no_members (λ b one. (refl, (b, back b one, as_known b one))) inside tt in
       let plain = all_true (λ t. (b : ℕ) × (bit_named writers t ≡ Some b) × (bit_named readers t ≡ known valid b)) 0 ms each in

@@ -8,7 +8,7 @@ use Rattle.serde_json.specs.Written.{has_float, items_have_float, members_have_f
 use Rattle.enumset_repr.specs.BitSet.{BitSet, ascending}
 use Rattle.enumset_repr.specs.Laws.Algebra.{from_list_ascending}
 use Rattle.enumset_repr.specs.Laws.Members.{is_subset_itself}
-use Rattle.enumset_sets.specs.Laws.Elements.{AreBitsOf-ascending}
+use Rattle.enumset_sets.specs.Laws.Elements.{bits_are_listed}
 use Rattle.enumset.proofs.NamesTaken.{Each, each_written}
 use Rattle.enumset.specs.JsonNames.{list_value, map_value}
 use Rattle.enumset.specs.Names.{Names, name_of}
@@ -35,5 +35,5 @@ flat_members (member t d ms) each =
 
 pub map_flat : (names : Names) (s : BitSet) → IsFlat (map_value names s)
 map_flat names s =
-    let flat = flat_members _ (each_written (λ t d. d ≡ boolean true) names (ascending s) (ascending s) no_members (λ b one. refl) (AreBitsOf-ascending (ascending s) s s (sym (from_list_ascending s)) (is_subset_itself s)) tt) in
+    let flat = flat_members _ (each_written (λ t d. d ≡ boolean true) names (ascending s) (ascending s) no_members (λ b one. refl) (bits_are_listed (ascending s) s s (sym (from_list_ascending s)) (is_subset_itself s)) tt) in
     (flat.0, omega (arith, flat.1))

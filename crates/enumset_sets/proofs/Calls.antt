@@ -3,22 +3,22 @@
 --     before_middle, len_before      the numbers before one of an ascending list
 --     all_passed, stopped, before, place      no call stopped the iterator;  a call stopped it, what it was called for
 --         before, and how many these are
---     all_.., any_.., find_.., position_..      the clauses of these calls
-use Rattle.std.proofs.Common.{◌≡◌, ◌<◌, ◌≤◌, ℕ, suc, ◌==◌, Bool, true, false, true≢false, ◌||◌, List, [], ◌∷◌, ◌++◌, map, length, Option, Some, None, MatchOption, Result, Ok, Err, IfOk, refl, sym, ap, subst, ◌∙◌, arith, eqb-true, eq-eqb, nat_lt, ◌&&◌}
+--     all_.., any_.., find_.., position_.., rfind_..      the clauses of these calls
+use Rattle.std.proofs.Common.{◌≡◌, ◌<◌, ℕ, suc, ◌==◌, Bool, true, false, true≢false, ◌||◌, List, [], ◌∷◌, ◌++◌, map, length, Option, Some, None, MatchOption, Result, Ok, Err, IfOk, refl, sym, ap, subst, ◌∙◌, arith, eqb-true, eq-eqb, nat_lt, ◌&&◌}
 use Rattle.std.proofs.lemmas.Bool.{or_left, or_right}
 use Rattle.std.proofs.lemmas.Bool.Decides.{nat_tests}
 use Rattle.std.proofs.lemmas.List.{length-map}
 use Rattle.std.specs.Bool.{MatchBool}
 use Rattle.std.specs.Fn.{Mut, Called, CalledAt}
-use Rattle.std.specs.Iterator.{Yields, YieldsThen, DrainsIf, CallsWhile, ChecksAll, ChecksAny, FindsPosition, FindsItem}
+use Rattle.std.specs.Iterator.{Yields, YieldsThen, DrainsIf, ChecksAll, ChecksAny, FindsPosition, FindsItem}
 use Rattle.std.specs.Iterator.Runs.{CallKeepsClosure}
 use Rattle.std.specs.List.{FoldsTo}
 use denote.Ref.{Bor}
 use Rattle.enumset_repr.specs.Asks.{IterView}
-use Rattle.enumset_repr.specs.BitSet.{is_in, contains, from_list, len, low, ascending}
+use Rattle.enumset_repr.specs.BitSet.{is_in, contains, from_list, len, low}
 use Rattle.enumset_repr.specs.Laws.Ascending.{AscendsFrom, ascending_is, is_in_from, is_in_below, len_ascending}
 use Rattle.enumset_repr.specs.Laws.Members.{contains_from_list, contains_low}
-use Rattle.enumset_sets.specs.Calls.{EachGives, OneGives}
+use Rattle.enumset_sets.specs.Calls.{EachGives, OneGives, steps_back}
 use Rattle.enumset_sets.specs.Laws.Iterators.{steps_by}
 
 -- ---- the calls
@@ -43,11 +43,19 @@ append_none : (bs : List ℕ) → bs ++ [] ≡ bs
 append_none [] = refl
 append_none (b ∷ bs) = ap (λ cs. b ∷ cs) (append_none bs)
 
+append_append : (front bs cs : List ℕ) → (front ++ bs) ++ cs ≡ front ++ (bs ++ cs)
+append_append [] bs cs = refl
+append_append (a ∷ front) bs cs = ap (λ ds. a ∷ ds) (append_append front bs cs)
+
+pub is_in_append : (q : ℕ) (bs cs : List ℕ) → is_in q (bs ++ cs) ≡ (is_in q bs || is_in q cs)
+is_in_append q [] cs = refl
+is_in_append q (b ∷ bs) cs = let later = is_in_append q bs cs in grind (arith, nat_tests, later)
+
 pub is_in_middle : (m : ℕ) (front bs : List ℕ) → is_in m (front ++ m ∷ bs) ≡ true
 is_in_middle m [] bs = or_left (m == m) _ (eq-eqb m m refl)
 is_in_middle m (a ∷ front) bs = or_right (m == a) _ (is_in_middle m front bs)
 
--- in an ascending list, what is less than a number of it comes before it
+-- in an ascending list, the numbers less than m are those before m
 pub before_middle : (k m q : ℕ) (front bs : List ℕ) → AscendsFrom k (front ++ m ∷ bs) → q < m → is_in q (front ++ m ∷ bs) ≡ is_in q front
 before_middle k m q [] bs ascends less = let none = is_in_below (suc m) q bs ascends.1 in grind (arith, nat_tests)
 before_middle k m q (a ∷ front) bs ascends less = ap (λ t. (q == a) || t) (before_middle (suc a) m q front bs ascends.1 less)
@@ -62,6 +70,14 @@ middle_above k m q (a ∷ front) bs ascends one =
 pub ascends_front : (k m : ℕ) (front bs : List ℕ) → AscendsFrom k (front ++ m ∷ bs) → AscendsFrom k front
 ascends_front k m [] bs ascends = tt
 ascends_front k m (a ∷ front) bs ascends = (ascends.0, ascends_front (suc a) m front bs ascends.1)
+
+-- in an ascending list, what is greater than a number of it comes after it
+after_middle : (k m q : ℕ) (front bs : List ℕ) → AscendsFrom k (front ++ m ∷ bs) → m < q → is_in q (front ++ m ∷ bs) ≡ is_in q bs
+after_middle k m q [] bs ascends less = grind (arith, nat_tests)
+after_middle k m q (a ∷ front) bs ascends less =
+    let here = is_in_from (suc a) m (front ++ m ∷ bs) ascends.1 (is_in_middle m front bs) in
+    let later = after_middle (suc a) m q front bs ascends.1 less in
+    grind (arith, nat_tests)
 
 len_before : (m : ℕ) (front bs : List ℕ) → AscendsFrom 0 (front ++ m ∷ bs) → len (low (from_list (front ++ m ∷ bs)) m) ≡ length front
 len_before m front bs ascends =
@@ -173,3 +189,35 @@ module _ {F T : Type 0} (bit : T → ℕ) (g : Mut F (Bor T × Unit {0}) Bool) (
     at_stop bit (CalledAt g) f kept_at false ran.0 ran.1 i j ran.3 t ran.2 true ran.4.0 ran.4.1,
     before bit (CalledAt g) f kept_at false ran.0 ran.1 i j ran.3 t ran.2 ascends,
   )
+
+-- ---- from the back
+
+module _ {T : Type 0} (bit : T → ℕ) where
+  -- the bits of the elements that were yielded stood behind those that are left
+  abbrev StoodBehind : List T → IterView → IterView → Type 0
+  StoodBehind xs i j = (bs : List ℕ) × (i.items ≡ j.items ++ bs) × ((q : ℕ) → is_in q bs ≡ is_in q (map bit xs))
+
+  yielded_back : (xs : List T) (i j : IterView) → Yields (steps_back bit) i xs j → StoodBehind xs i j
+  yielded_back [] i j same = ([], ap (λ k. k.items) same ∙ sym (append_none j.items), λ q. refl)
+  yielded_back (x ∷ xs) i j run =
+      let rest = yielded_back xs run.0 j run.2 in (
+        rest.0 ++ bit x ∷ [],
+        run.1.0 ∙ ap (λ bs. bs ++ bit x ∷ []) rest.1 ∙ append_append j.items rest.0 (bit x ∷ []),
+        λ q. let each = rest.2 q in let append = is_in_append q rest.0 (bit x ∷ []) in grind (arith, nat_tests),
+      )
+
+  module _ {F : Type 0} (g : Mut F (Bor T × Unit {0}) Bool) (f : F) (i j : IterView) (keeps : CallKeepsClosure g f) where
+    pub rfind_clause : AscendsFrom 0 i.items → (r : Option T) → FindsItem (steps_back bit) g i f r j → MatchOption r (EachGives bit (λ t b. CalledAt g f t b f) (from_list i.items) false) (λ t. (contains (from_list i.items) (bit t) ≡ true) × CalledAt g f t true f × ((q : ℕ) → contains (from_list i.items) q ≡ true → bit t < q → (u : T) × (bit u ≡ q) × CalledAt g f u false f))
+    rfind_clause ascends None ran =
+        let calls = each bit (CalledAt g) f (kept_at bit g f i j keeps) false ran.0 f ran.1 refl ran.3 in
+        let back = yielded_back ran.0 i ran.2.0 ran.2.1 in
+        λ q one. calls.1 q (sym (back.2 q) ∙ ap (λ bs. is_in q (bs ++ back.0)) (sym ran.2.2.0.0) ∙ ap (is_in q) (sym back.1) ∙ sym (contains_from_list i.items q) ∙ one)
+    rfind_clause ascends (Some t) ran =
+        let calls = each bit (CalledAt g) f (kept_at bit g f i j keeps) false ran.0 f ran.1 refl ran.3 in
+        let back = yielded_back ran.0 i ran.2.0 ran.2.1 in
+        let items : i.items ≡ j.items ++ bit t ∷ back.0 = back.1 ∙ ap (λ bs. bs ++ back.0) ran.2.2.0 ∙ append_append j.items (bit t ∷ []) back.0 in
+        let first = subst (λ h. CalledAt g h t true ran.4.0) calls.0 ran.4.1 in (
+          contains_from_list i.items (bit t) ∙ ap (is_in (bit t)) items ∙ is_in_middle (bit t) j.items back.0,
+          subst (λ h. CalledAt g f t true h) (kept_at bit g f i j keeps t true ran.4.0 first) first,
+          λ q one less. calls.1 q (sym (back.2 q) ∙ sym (after_middle 0 (bit t) q j.items back.0 (subst (AscendsFrom 0) items ascends) less) ∙ ap (is_in q) (sym items) ∙ sym (contains_from_list i.items q) ∙ one),
+        )

@@ -1,24 +1,20 @@
 -- What an iterator with a filter yields: the elements of a set that its closure selects, ascending by bit.
 use Rattle.std.proofs.Common.{◌≡◌, ◌≤◌, ◌<◌, ◌^◌, ℕ, suc, length, Option, ◌==◌, Bool, true, false, true≢false, ◌||◌, List, [], ◌∷◌, ◌++◌, map, Some, None, Result, Ok, Err, IfOk, refl, sym, ap, subst, ◌∙◌, arith, eqb-true}
 use Rattle.std.proofs.lemmas.Bool.Decides.{nat_tests}
-use Rattle.std.specs.Fn.{Mut, Called, CalledAt}
+use Rattle.std.specs.Fn.{Mut, CalledAt}
 use Rattle.std.proofs.lemmas.List.{length-map}
-use Rattle.std.specs.Iterator.{Yields, Drains, DrainsIf, YieldsLastBy}
+use Rattle.std.specs.Iterator.{Yields, Drains, DrainsIf}
 use Rattle.std.specs.Iterator.Adapters.{filter_source, filter_callee, filter_steps}
 use Rattle.std.specs.Iterator.Runs.{CallKeepsClosure}
 use Rattle.std.specs.List.{FoldsTo}
 use Rattle.std.specs.declared.iter.Filter.{Filter}
 use denote.Ref.{Bor}
-use Rattle.enumset_repr.specs.Asks.{IterView, BoundsAsks}
+use Rattle.enumset_repr.specs.Asks.{IterView}
 use Rattle.enumset_repr.specs.BitSet.{BitSet, is_in, contains, from_list, ascending, len}
 use Rattle.enumset_repr.specs.Laws.Ascending.{len_ascending, AscendsFrom, ascending_is, is_in_from, is_in_below, ascends_lower}
 use Rattle.enumset_repr.specs.Laws.Members.{contains_from_list, contains_is_subset, same_set}
-use Rattle.enumset_sets.proofs.Calls.{each, steps, all_yielded, yielded_up_to, middle_above, is_in_middle, ascends_front}
-use Rattle.enumset_sets.specs.Calls.{IsLenOf, Selects}
-
-is_in_append : (q : ℕ) (bs cs : List ℕ) → is_in q (bs ++ cs) ≡ (is_in q bs || is_in q cs)
-is_in_append q [] cs = refl
-is_in_append q (b ∷ bs) cs = let later = is_in_append q bs cs in grind (arith, nat_tests, later)
+use Rattle.enumset_sets.proofs.Calls.{each, is_in_append, steps, all_yielded, yielded_up_to, middle_above, is_in_middle, ascends_front}
+use Rattle.enumset_sets.specs.Calls.{IsLenOf, Selects, steps_back}
 
 ascends_rest : (k m : ℕ) (front bs : List ℕ) → AscendsFrom k (front ++ m ∷ bs) → AscendsFrom (suc m) bs
 ascends_rest k m [] bs ascends = ascends.1
@@ -42,9 +38,6 @@ after_step bit g s t (Some y) step ascends fits =
 length_rest_back : (m : ℕ) (bs : List ℕ) → length bs ≤ length (bs ++ m ∷ [])
 length_rest_back m [] = omega arith
 length_rest_back m (b ∷ bs) = let later = length_rest_back m bs in omega (arith, later)
-
-abbrev steps_back : {T : Type 0} → (T → ℕ) → IterView → Option T → IterView → Type 0
-steps_back bit i r j = YieldsLastBy bit (λ (k : IterView). k.items) i r j × BoundsAsks i.asks i.span r j.asks j.span
 
 module _ {T : Type 0} (bit : T → ℕ) where
   one_back : (i j : IterView) (r : Option T) → steps_back bit i r j → AscendsFrom 0 i.items → length i.items < 2 ^ 32 → AscendsFrom 0 j.items × (length j.items < 2 ^ 32)

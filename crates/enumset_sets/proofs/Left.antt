@@ -15,9 +15,11 @@ use Rattle.enumset_sets.specs.Elements.{Elements, valid_bits, AreLeft, AreBitsOf
 use Rattle.enumset_sets.specs.Laws.Elements.{is_valid_bit}
 
 none_left : (bit_list : List ℕ) → AreLeft [] bit_list
+unfolding AreBitsOf
 none_left bit_list = record { ascends = tt; valid = grind arith }
 
 without_first : (b : ℕ) (bs bit_list : List ℕ) → AreLeft (b ∷ bs) bit_list → AreLeft bs bit_list
+unfolding AreBitsOf
 without_first b bs bit_list left = record { ascends = ascends_lower 0 (suc b) bs (omega arith) left.ascends.1; valid = grind (arith, left.valid) }
 
 front_ascends : (k b : ℕ) (bs : List ℕ) → AscendsFrom k (bs ++ b ∷ []) → AscendsFrom k bs
@@ -25,6 +27,7 @@ front_ascends k b [] ascends = tt
 front_ascends k b (c ∷ bs) ascends = (ascends.0, front_ascends (suc c) b bs ascends.1)
 
 front_valid : (b : ℕ) (bs bit_list : List ℕ) → AreBitsOf (bs ++ b ∷ []) bit_list → AreBitsOf bs bit_list
+unfolding AreBitsOf
 front_valid b [] bit_list valid = grind arith
 front_valid b (c ∷ bs) bit_list valid = let later = front_valid b bs bit_list in grind (arith, valid)
 
@@ -42,6 +45,7 @@ module _ (bit_list bs cs : List ℕ) where
 -- ---- the set of what is left
 
 each_valid : (q : ℕ) (bs bit_list : List ℕ) → AreBitsOf bs bit_list → is_in q bs ≡ true → is_in q bit_list ≡ true
+unfolding AreBitsOf
 each_valid q [] bit_list valid one = absurd (true≢false (sym one))
 each_valid q (b ∷ bs) bit_list valid one =
     let later = each_valid q bs bit_list in

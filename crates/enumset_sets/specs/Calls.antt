@@ -1,22 +1,27 @@
 -- What the calls of a closure for the elements of a set returned. `call t b` says that a call for t returns b.
+--     left      the set of the bits that an iterator has left
 --     EachGives      for each member there is an element with this bit, and a call for it returns b
 --     OneGives      there is a member, an element with this bit, and a call for it that returns b
 --     Selects      the second set has the members of the first for which a call returns true
---     AllCalls, AnyCalls, FindCalls, PositionCalls      the calls that `all` and its like make, in std's words
+--     AllCalls, AnyCalls, FindCalls, RfindCalls, PositionCalls      the calls that `all` and its like make, as std
+--         states them
 --     FilterCounts, FilterCollects      the elements that `count` and `collect` after a filter take
 --     FilterRuns      which run of a set's iterator stands behind each run of a filter
---     IsLenOf      a number is how many members a set has, and so each set with the same members
-use Rattle.std.specs.Prelude.{◌≡◌, ℕ, Bool, true, IsTrue}
-use Rattle.std.specs.Prelude.{List, Option, Result, IfOk, length}
+--     IsLenOf      a number is how many members a set has, and each set with the same members
+use Rattle.std.specs.Prelude.{◌≡◌, ℕ, Bool, true, IsTrue, List, Option, Result, IfOk, length}
 use Rattle.std.specs.Fn.{Mut}
-use Rattle.std.specs.Iterator.{ChecksAll, ChecksAny, FindsItem, FindsPosition, Drains, DrainsIf}
+use Rattle.std.specs.Iterator.{ChecksAll, ChecksAny, FindsItem, FindsPosition, Drains, DrainsIf, YieldsLastBy}
 use Rattle.std.specs.Iterator.Adapters.{filter_steps}
 use Rattle.std.specs.Iterator.Runs.{EachRunFrom, SomeRun, IsFilterRun}
 use Rattle.std.specs.declared.iter.Filter.{Filter}
 use denote.Ref.{Bor}
-use Rattle.enumset_repr.specs.Asks.{IterView}
-use Rattle.enumset_repr.specs.BitSet.{BitSet, contains, is_subset, len}
+use Rattle.enumset_repr.specs.Asks.{IterView, BoundsAsks}
+use Rattle.enumset_repr.specs.BitSet.{BitSet, contains, from_list, is_subset, len}
 use Rattle.enumset_sets.specs.Laws.Iterators.{steps_by}
+
+-- the bits that an iterator has left, by a name of their own: a search does not look for numbers in their list
+unfoldable pub left : IterView → BitSet
+left i = from_list i.items
 
 abbrev pub EachGives : {T : Type 0} → (T → ℕ) → (T → Bool → Type 0) → BitSet → Bool → Type 0
 EachGives {T} bit call s b = (q : ℕ) → contains s q ≡ true → (t : T) × (bit t ≡ q) × call t b
@@ -32,9 +37,13 @@ IsLenOf u n = (s : BitSet) → ((q : ℕ) → contains s q ≡ contains u q) →
 
 -- ---- the calls one by one, of which a search need not know
 
--- an iterator whose bits left are seen as `bit` gives them
+-- the steps of an iterator over elements, of which `bit` gives the bits
 abbrev pub steps : {T : Type 0} → (T → ℕ) → IterView → Option T → IterView → Type 0
 steps bit = steps_by bit (λ bits. bits)
+
+-- the same from the back
+abbrev pub steps_back : {T : Type 0} → (T → ℕ) → IterView → Option T → IterView → Type 0
+steps_back bit i r j = YieldsLastBy bit (λ (k : IterView). k.items) i r j × BoundsAsks i.asks i.span r j.asks j.span
 
 module _ {T F : Type 0} (bit : T → ℕ) (g : Mut F (T × Unit {0}) Bool) (i : IterView) (f : F) where
   unfoldable pub AllCalls : Bool → IterView → Type 0
@@ -49,6 +58,9 @@ module _ {T F : Type 0} (bit : T → ℕ) (g : Mut F (T × Unit {0}) Bool) (i : 
 module _ {T F : Type 0} (bit : T → ℕ) (g : Mut F (Bor T × Unit {0}) Bool) where
   unfoldable pub FindCalls : IterView → F → Option T → IterView → Type 0
   FindCalls i f r j = FindsItem (steps bit) g i f r j
+
+  unfoldable pub RfindCalls : IterView → F → Option T → IterView → Type 0
+  RfindCalls i f r j = FindsItem (steps_back bit) g i f r j
 
   unfoldable pub FilterCounts : Filter IterView F → ℕ → Type 0
   FilterCounts s n = (ts : List T) × Drains (filter_steps (steps bit) g) s ts × (n ≡ length ts)

@@ -3,8 +3,9 @@
 --     valid_bits      the set of the variants' bits
 --     listed_bit, place      the bit of a variant of an enum without fields: the one at the variant's place in a list;
 --         the variant's place itself
---     with_bits, in_place      the elements of an enum with these bits
---     in_order      the same elements as `in_place`, with the list 0, 1, 2 and so on
+--     with_bits, in_place      the elements of an enum whose bits are listed;  of one whose bits are the variants'
+--         places
+--     in_order      the elements of `in_place`, where the bit of a variant is looked up in the list 0, 1, 2 and so on
 --     one_past      one past a number, or 0 if there is none
 --     one_past_greatest      one past the greatest member, or 0 for the empty set
 --     IsWidthOf, IsCountOf      whether a number is one past the greatest member of a set;  whether it is the number of
@@ -58,8 +59,8 @@ one_past (Some b) = suc b
 abbrev pub one_past_greatest : BitSet → ℕ
 one_past_greatest s = one_past (greatest s)
 
--- one past the greatest member is the width;  the count is the number of members.  A search would otherwise look up each
--- set at the greatest valid bit, in each function over any element type.
+-- The width is one past the greatest member, and the count is the number of members. A search does not open these
+-- terms: else it would look up each set at the greatest valid bit, in each function over any element type.
 unfoldable pub IsWidthOf : BitSet → ℕ → Type 0
 IsWidthOf s width = width ≡ one_past_greatest s
 
@@ -82,10 +83,10 @@ pub record IsElementType {T : Type 0} (elements : Elements T) (eq : T → T → 
   pub count_is : IsCountOf all count
 
 -- each number of the first list is in the second
-abbrev pub AreBitsOf : List ℕ → List ℕ → Type 0
+unfoldable pub AreBitsOf : List ℕ → List ℕ → Type 0
 AreBitsOf bs bit_list = IsTrue (list_all (λ b. is_in b bit_list) bs)
 
--- what an iterator may have left
+-- the bits that an iterator may have left
 pub record AreLeft (bs bit_list : List ℕ) : Type 0 where
   pub ascends : AscendsFrom 0 bs
   pub valid : AreBitsOf bs bit_list

@@ -1,8 +1,7 @@
--- The words of clauses about sets, and the rulesets for code over sets, by one name.
+-- The terms of clauses about sets, and the rulesets for code over sets, in one module.
 --     operations on sets, their members and numbers;  the valid bits;  unions and intersections of many sets
 --     what an element type states, with its laws
 --     set_laws      the ruleset for the root of a crate
---     chains      the ruleset for a function with a chain of iterators
 --     decided, ends, counts, ..      rulesets for one function:  the file each comes from says what it has
 --     the laws of sets, which docs/LAWS.md lists by subject
 --     same_set, same_in, same_both, members      for proofs by hand:  sets with the same members are equal, and so are
@@ -17,7 +16,6 @@ pub use Rattle.enumset_repr.specs.Rules.Counts.{counts, counts_of_parts}
 pub use Rattle.enumset_repr.specs.Laws.Counting.{counting}
 pub use Rattle.enumset_repr.specs.Rules.Ends.{ends, found}
 pub use Rattle.enumset_repr.specs.Laws.Firsts.{firsts, written_out}
-pub use Rattle.enumset_repr.specs.Rules.Iteration.{chains_of_two, tests}
 pub use Rattle.enumset_repr.specs.Rules.Members.{decided}
 pub use Rattle.enumset_repr.specs.Laws.Members.{same_set, same_in, same_both, members}
 pub use Rattle.enumset_repr.specs.Rules.Numbers.{masks, ordering}
@@ -35,7 +33,7 @@ unfoldable pub use Rattle.enumset_sets.specs.Folds.{union_all}
 pub use Rattle.enumset_sets.specs.Laws.Elements.{lawful_in_integer, lawful_in_place, lawful_in_words, place_is, place_is_valid}
 pub use Rattle.enumset_sets.specs.Laws.ManySets.{folds}
 pub use Rattle.enumset_sets.specs.Rules.ManySets.{folds_once}
-pub use Rattle.enumset_sets.specs.Rules.SetLaws.{set_laws, chains}
+pub use Rattle.enumset_sets.specs.Rules.SetLaws.{set_laws}
 -- the laws
 pub use Rattle.enumset_repr.specs.Laws.Algebra.{union_comm, union_assoc, union_self, union_empty, empty_union, union_intersection, union_over_intersection, intersection_comm, intersection_assoc, intersection_self, intersection_empty, empty_intersection, intersection_union, intersection_over_union, difference_self, difference_empty, empty_difference, difference_union, difference_intersection, union_difference, difference_then_union, difference_twice, symmetric_difference_comm, symmetric_difference_assoc, symmetric_difference_self, symmetric_difference_empty, symmetric_difference_twice, intersection_over_symmetric_difference, insert_twice, insert_comm, insert_present, remove_twice, remove_comm, remove_absent, remove_insert, insert_remove, insert_remove_comm, insert_removed, remove_inserted, contains_inserted, contains_removed, insert_union, union_insert, toggled, difference_inserted, insert_inside, complement_twice, complement_union, complement_intersection, complement_apart, is_disjoint_empty, is_disjoint_difference, is_subset_trans, union_left, union_right, intersection_left, intersection_right, difference_left, insert_grows, remove_shrinks, union_within, intersection_within, difference_within, intersection_difference, symmetric_difference_within, difference_none, intersection_apart, difference_apart, from_list_ascending, insert_each_union}
 pub use Rattle.enumset_repr.specs.Laws.Ascending.{ascending_is, ascending_empty, len_ascending, len_empty, len_insert, len_remove, len_below, is_empty_iff}

@@ -1,4 +1,7 @@
-//! The set of elements.
+//! The type [`EnumSet`] and its calls, except conversions to and from numbers, words and values of a representation,
+//! operators and folds.
+//!
+//! `MixedEnumSet` of `enumset_mixed` is its twin: a change of a call or of its contract here is mostly due there, too.
 
 ghost use Rattle.std.specs.Prelude.{◌≡◌, ◌<◌, ◌≤◌, ◌&&◌, ◌^◌, ℕ, Bool, IsTrue, IfNone, IfSome, false, if◌then◌else◌, nat_le, not, length};
 ghost use Rattle.std.specs.Iterator.{YieldsFirstBy, YieldsLastBy};
@@ -8,7 +11,7 @@ ghost use Rattle.std.specs.Option.{option_map};
 ghost use Rattle.enumset_repr.specs.BitSet as set;
 ghost use Rattle.enumset_repr.specs.Ends.{least, greatest};
 ghost use Rattle.enumset_repr.specs.Number.{bits};
-ghost use Rattle.enumset_sets.specs.Calls.{Selects};
+ghost use Rattle.enumset_sets.specs.Calls.{left, Selects};
 ghost use Rattle.enumset_sets.specs.Elements.{one_past_greatest, valid_bits};
 ghost use Rattle.enumset_sets.specs.Retain.{IsConstantTest, IsTest, Retains, RetainsTo};
 
@@ -23,12 +26,11 @@ use std::marker::{Model, PhantomData};
 
 /// A set of elements, kept as a value of a representation.
 ///
-/// Contracts see it as the set of its elements' bits, which are its members. A bit is valid if a variant has it.
+/// Contracts see a set as the set of its elements' bits, which are called its members. A bit is valid if a variant has
+/// it.
 ///
-/// It mirrors `EnumSet` of Rust's `enumset`, and its calls keep their names, except for
-/// [`eq_element`](EnumSet::eq_element). Rust's crate has neither [`copied`](EnumSet::copied) nor the calls from
-/// [`range`](EnumSet::range) to [`retain`](EnumSet::retain). The parameter `R` is always the representation of `T`: write
-/// `EnumSet<T>`.
+/// The struct mirrors `EnumSet` of Rust's `enumset`, whose calls have the same names, except for
+/// [`eq_element`](EnumSet::eq_element). The parameter `R` is always the representation of `T`: write `EnumSet<T>`.
 ///
 /// # Numbers
 ///
@@ -42,7 +44,7 @@ use std::marker::{Model, PhantomData};
 /// | `as_X_truncated` | the number of the set of the members below the width | |
 /// | `from_X` | the set of the number | that every bit of it is valid |
 /// | `try_from_X` | the set of the number, if every bit of it is valid, else `None` | |
-/// | `from_X_truncated` | the set of its valid bits | |
+/// | `from_X_truncated` | the set of the valid bits of the number | |
 /// | `from_X_unchecked` | as `from_X` | the same |
 ///
 /// The `try_` form tests what the other form requires: code that has matched its `Some` may call the other.
@@ -59,7 +61,7 @@ use std::marker::{Model, PhantomData};
 /// | `as_array_truncated` | `copy_into_slice_truncated` | the words, without the members that are in none of them | |
 /// | `from_array` | `from_slice` | the set of the words | that every bit of them is valid |
 /// | `try_from_array` | `try_from_slice` | the set of the words, if every bit of them is valid, else `None` | |
-/// | `from_array_truncated` | `from_slice_truncated` | the set of their valid bits | |
+/// | `from_array_truncated` | `from_slice_truncated` | the set of the valid bits of the words | |
 /// | `from_array_unchecked` | `from_slice_unchecked` | as `from_array`, `from_slice` | the same |
 ///
 /// [`to_vec`](EnumSet::to_vec) returns all words of the representation.
@@ -87,7 +89,7 @@ impl<T: EnumSetType, R: EnumSetTypeRepr> Model for EnumSet<T, R> {
     ghost inverse_ok = { λ a h i. record { repr = h.inverse i; of = a.of } };
 }
 
-/// The same set, always `Ok`. A set is `Copy`, so this is for generic code.
+/// `clone` returns the same set, and never fails. A set is `Copy`, so only generic code calls `clone`.
 impl<T: EnumSetType, R: EnumSetTypeRepr> Clone for EnumSet<T, R> {
     ghost use Rattle.std.specs.Prelude.{⊤};
 
@@ -125,7 +127,7 @@ impl<T: EnumSetType> Eq for EnumSet<T> {
     ghost laws = { is_same-IsEquivalence };
 }
 
-/// The empty set.
+/// `default` returns the empty set.
 impl<T: EnumSetType> Default for EnumSet<T> {
     ghost use Rattle.std.specs.Prelude.{◌≡◌};
     ghost use Rattle.enumset_repr.specs.BitSet.{empty};
@@ -137,8 +139,8 @@ impl<T: EnumSetType> Default for EnumSet<T> {
     }
 }
 
-/// `EnumSet(`, the `{:?}` texts of the elements, ascending by bit and joined by ` | `, and `)`. No contract is about
-/// `{:?}`; tests are.
+/// `{:?}` writes `EnumSet(`, the `{:?}` texts of the elements, ascending by bit and joined by ` | `, and `)`. No
+/// contract says so; tests do.
 impl<T: EnumSetType + fmt::Debug> fmt::Debug for EnumSet<T> {
     fn fmt<W: fmt::Write>(&self, f: &mut fmt::Formatter<W>) -> fmt::Result {
         f.write_str("EnumSet(")?;
@@ -154,12 +156,12 @@ impl<T: EnumSetType + fmt::Debug> fmt::Debug for EnumSet<T> {
 
 #[tactic(auto, using(enumset_repr::specs::Rules::Members::decided))]
 impl<T: EnumSetType> EnumSet<T> {
-    /// The set that a value represents.
+    /// Returns the set that a value represents. Each member must be a valid bit.
     pub(crate) fn of_repr(repr: T::Repr) -> EnumSet<T>
         requires { IsTrue (set.is_subset (T.Repr.members repr) (valid_bits T.elements)) }
         ensures { result ≡ T.Repr.members repr }
     {
-        // The invariant of the type is about values only.
+        // Tells the proof that `repr` is a value of its type, as the invariant of `EnumSet` says.
         repr.learn_is_value();
         EnumSet {
             repr,
@@ -167,8 +169,8 @@ impl<T: EnumSetType> EnumSet<T> {
         }
     }
 
-    /// Tells the proof that the members are valid bits, and that these are below the width, which is a `u32`. It does
-    /// nothing at run time.
+    /// Tells the proof that the members are valid bits, and that valid bits are below the width, which is a `u32`. The
+    /// call does nothing at run time.
     #[inline]
     pub(crate) fn learn_members(&self)
         ensures valid { IsTrue (set.is_subset self.now (valid_bits T.elements)) }
@@ -210,7 +212,7 @@ impl<T: EnumSetType> EnumSet<T> {
         Self::of_repr(repr)
     }
 
-    /// Returns one past the greatest valid bit, or 0 if there is none.
+    /// Returns one past the greatest valid bit, or 0 if no bit is valid.
     #[tactic(auto, unfolding(crate::specs::Elements::IsWidthOf))]
     pub fn bit_width() -> u32
         ensures { result ≡ one_past_greatest (valid_bits T.elements) }
@@ -236,8 +238,8 @@ impl<T: EnumSetType> EnumSet<T> {
         t.enum_into_u32()
     }
 
-    /// Returns whether a bit is valid: whether a variant has it. No bit at or past the width of the representation is
-    /// valid. In Rust's `enumset` the call then concerns another bit, overflows or panics.
+    /// Returns whether a bit is valid, which is whether a variant has it. No bit at or past the width of the
+    /// representation is valid. For such a bit the call of Rust's `enumset` tests another bit, overflows or panics.
     pub fn is_bit_valid(bit: u32) -> bool
         ensures valid { result ≡ set.contains (valid_bits T.elements) bit }
         ensures of_a_variant { result ≡ set.is_in bit T.elements.bit_list }
@@ -390,7 +392,7 @@ impl<T: EnumSetType> EnumSet<T> {
     /// not affect it. Each member of the set is a valid bit.
     pub fn iter(&self) -> EnumSetIter<T>
         ensures ascending { result.items ≡ set.ascending self.now }
-        ensures members { set.from_list result.items ≡ self.now }
+        ensures members { left result ≡ self.now }
         ensures asks { result.asks ≡ 0 }
         ensures span { result.span ≤ T.Repr.PREFERRED_ARRAY_LEN }
         ensures valid { IsTrue (set.is_subset self.now (valid_bits T.elements)) }
@@ -423,7 +425,7 @@ impl<T: EnumSetType> EnumSet<T> {
         learn_valid_bits::<T>();
         let all = valid_repr::<T>();
         let mut range = T::Repr::EMPTY;
-        // The limit lets the compiler see that an integer has one word.
+        // By this `min` the compiler sees that an integer of at most 64 bits has one word.
         let end = (last as usize / 64 + 1).min(T::Repr::PREFERRED_ARRAY_LEN);
         for i in first as usize / 64..end {
             let start = 64 * i as u32;
@@ -463,7 +465,7 @@ impl<T: EnumSetType> EnumSet<T> {
         self.repr.or_changes(&other.repr)
     }
 
-    /// Removes every member that is not in `other`, and returns whether there was one.
+    /// Removes every member that is not in `other`, and returns whether there was such a member.
     pub fn intersect_with(&mut self, other: &EnumSet<T>) -> bool
         ensures intersection { self.new ≡ set.intersection self.old other.now }
         ensures changed { result ≡ not (set.is_subset self.old other.now) }
@@ -492,7 +494,8 @@ impl<T: EnumSetType> EnumSet<T> {
         is_member
     }
 
-    /// Adds an element if `is_member` is true, else removes it. So `is_member` says whether it is a member now.
+    /// Adds an element if `is_member` is true, else removes it. So `is_member` says whether the element is a member
+    /// now.
     pub fn set(&mut self, value: T, is_member: bool)
         ensures { self.new ≡ (if is_member
             then set.insert self.old (T.elements.bit value)
@@ -557,14 +560,14 @@ impl<T: EnumSetType> EnumSet<T> {
         Some(T::enum_from_u32(bit))
     }
 
-    /// Removes each element for which `keep` returns false. It is called once for each, ascending by bit. What is left
-    /// is a part of the set, whatever `keep` does. If `keep` tests only the bit, exactly the elements whose bits pass
-    /// stay. The test may also read what `keep` captured, if no call changes it.
+    /// Removes each element for which `keep` returns false. `keep` is called once for each element, ascending by bit.
+    /// What is left is a subset of the set, whatever `keep` does. If `keep` tests only the bit, exactly the elements
+    /// whose bits pass stay. The test may also read what `keep` captured, if no call changes it.
     ///
     /// No clause says what the calls leave in a variable that `keep` borrows and changes, like a count of its calls:
     /// the variable has some value then. To count the removed elements, compare `len` before and after.
     ///
-    /// Its model is `BTreeSet::retain`.
+    /// The model of this call is `BTreeSet::retain` of std.
     pub fn retain<F: FnMut(T) -> bool>(&mut self, keep: F)
         requires { F.IsAlwaysCallable keep }
         ensures calls { Retains T.elements.bit F.FnMut keep self.old self.new }
@@ -579,8 +582,8 @@ impl<T: EnumSetType> EnumSet<T> {
         self.retain_by(&mut keep_each);
     }
 
-    /// Makes the calls of [`retain`](EnumSet::retain). It takes the closure by reference, so that its clause can tell
-    /// what they make of the closure: one call for each element, and no more.
+    /// Makes the calls of [`retain`](EnumSet::retain), one for each element, and no more. It takes the closure by
+    /// reference, so that the clause can say what the calls make of the closure.
     fn retain_by<F: FnMut(T) -> bool>(&mut self, keep: &mut F)
         requires { F.IsAlwaysCallable keep.old }
         ensures { RetainsTo T.elements.bit F.FnMut keep.old keep.new self.old self.new }
@@ -593,7 +596,7 @@ impl<T: EnumSetType> EnumSet<T> {
     }
 }
 
-/// The word of the bits from `k` to 63.
+/// Returns the word that has the bits from `k` to 63, which is 0 if `k` is greater than 63.
 fn ones_from(k: u32) -> u64
     ensures { bits result ≡ set.difference (set.below 64) (set.below k) }
 {

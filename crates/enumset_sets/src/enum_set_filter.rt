@@ -7,7 +7,7 @@ ghost use Rattle.std.specs.Iterator.Adapters.{filter_source, filter_callee, filt
 ghost use Rattle.std.specs.Iterator.Runs.{CallKeepsClosure};
 ghost use Rattle.enumset_repr.specs.BitSet as set;
 ghost use Rattle.enumset_repr.specs.BitSet.{BitSet};
-ghost use Rattle.enumset_sets.specs.Calls.{FilterCollects, FilterCounts, FilterRuns, IsLenOf, Selects};
+ghost use Rattle.enumset_sets.specs.Calls.{FilterCollects, FilterCounts, FilterRuns, IsLenOf, left, Selects};
 
 use crate::element::EnumSetType;
 use crate::enum_set_iter::EnumSetIter;
@@ -16,9 +16,9 @@ use std::iter::Filter;
 use std::marker::Model;
 
 /// An iterator over the elements for which a closure returns true, ascending by bit. The closure is called when an
-/// element is asked for, and not before.
+/// element is taken, and not before.
 ///
-/// [`EnumSetIter::filter`] makes it, in place of std's `Filter`, and contracts see it as one.
+/// [`EnumSetIter::filter`] returns such an iterator, in place of std's `Filter`, and contracts see it as a `Filter`.
 #[derive(Drop)]
 pub struct EnumSetFilter<T: EnumSetType, P: FnMut(&T) -> bool> {
     filter: Filter<EnumSetIter<T>, P>,
@@ -67,10 +67,10 @@ impl<T: EnumSetType, P: FnMut(&T) -> bool> DoubleEndedIterator for EnumSetFilter
     }
 }
 
-/// What ends a chain, with contracts over the set. They do what the calls of `Iterator` do. `selected` holds where no call
-/// changes what the closure captured; `calls` says in any case which elements were taken.
+/// The calls that end a chain, with contracts about the set. They do what those of `Iterator` do. The clause `selected`
+/// holds where no call changes what the closure captured; `calls` says in any case which elements were taken.
 impl<T: EnumSetType, P: FnMut(&T) -> bool> EnumSetFilter<T, P> {
-    /// The elements of an iterator for which a closure returns true.
+    /// Returns an iterator over the elements of another for which a closure returns true.
     pub(crate) fn of(iter: EnumSetIter<T>, predicate: P) -> EnumSetFilter<T, P>
         ensures source { filter_source result ≡ iter }
         ensures closure { filter_callee result ≡ predicate }
@@ -82,28 +82,28 @@ impl<T: EnumSetType, P: FnMut(&T) -> bool> EnumSetFilter<T, P> {
         }
     }
 
-    /// Returns the number of elements for which the closure returns true. It is called once for each element left,
-    /// ascending by bit.
+    /// Returns the number of elements for which the closure returns true. The closure is called once for each element
+    /// left, ascending by bit.
     pub fn count(self) -> usize
         requires { CallableOnAllAt ⟦<EnumSetIter<T> as Iterator>⟧.next_gives P.FnMut (filter_source self) (filter_callee self) }
         ensures calls { FilterCounts T.elements.bit P.FnMut self result }
         ensures selected { CallKeepsClosure P.FnMut (filter_callee self) → (kept : BitSet)
             × Selects T.elements.bit (λ t b. CalledAt P.FnMut (filter_callee self) t b (filter_callee self))
-            (set.from_list (filter_source self).items) kept
+            (left (filter_source self)) kept
             × IsLenOf kept result }
     {
         self.filter.count()
     }
 
-    /// Returns a collection of the elements for which the closure returns true, ascending by bit, or an error if there
-    /// is no memory for it.
+    /// Returns a collection of the elements for which the closure returns true, ascending by bit, or `AllocError` if
+    /// there is no memory for them.
     pub fn collect<B: FromIterator<T>>(self, alloc: B::Alloc) -> Result<B, AllocError>
         requires can { CallableOnAllAt ⟦<EnumSetIter<T> as Iterator>⟧.next_gives P.FnMut (filter_source self) (filter_callee self) }
         requires can_collect { HoldsAlong (filter_steps ⟦<EnumSetIter<T> as Iterator>⟧.next_gives P.FnMut) self B.can_from_iter }
         ensures calls { FilterCollects T.elements.bit P.FnMut B.is_complete B.from_iter_gives self result }
         ensures selected { CallKeepsClosure P.FnMut (filter_callee self) → IfOk result (λ v. B.is_complete v → (kept : BitSet) × (ts : List T)
             × Selects T.elements.bit (λ t b. CalledAt P.FnMut (filter_callee self) t b (filter_callee self))
-            (set.from_list (filter_source self).items) kept
+            (left (filter_source self)) kept
             × (map T.elements.bit ts ≡ set.ascending kept) × (set.from_list (map T.elements.bit ts) ≡ kept)
             × B.from_iter_gives ts v) }
     {

@@ -1,4 +1,6 @@
 //! The iterator over a set's elements.
+//!
+//! `MixedEnumSetIter` of `enumset_mixed` is its twin: a change here is mostly due there, too.
 
 ghost use Rattle.std.specs.Prelude.{◌≡◌, ◌<◌, ◌^◌, length, IsTrue};
 ghost use Rattle.std.specs.Iterator.{YieldsFirstBy, YieldsLastBy, item_count};
@@ -16,10 +18,10 @@ use std::marker::Model;
 
 /// An iterator over the elements of a set, ascending by bit.
 ///
-/// It mirrors `EnumSetIter` of Rust's `enumset`. Contracts see the list of the bits left, the count of asks, which are
-/// counted reads of a word, and the span: how many asks the iterator may still need beyond one for each element. So k
-/// steps, from either end, make at most k asks plus the span. Once one end has yielded `None`, both ends yield `None`
-/// from then on.
+/// The struct mirrors `EnumSetIter` of Rust's `enumset`. Contracts see the list of the bits left, the count of asks
+/// (counted reads of a word), and the span: how many asks the iterator may still make beyond one for each element left.
+/// So k steps, from either end, make at most k asks plus the span. Once one end has yielded `None`, both ends yield
+/// `None` from then on.
 pub struct EnumSetIter<T: EnumSetType> {
     iter: <T::Repr as EnumSetTypeRepr>::Iter,
 }
@@ -42,7 +44,7 @@ impl<T: EnumSetType> Drop for EnumSetIter<T> {
 }
 
 impl<T: EnumSetType> EnumSetIter<T> {
-    /// The iterator over the members of a value, which must be valid bits.
+    /// Returns the iterator over the members of a value, which must be valid bits.
     pub(crate) fn over(repr: T::Repr) -> EnumSetIter<T>
         requires { IsTrue (set.is_subset (T.Repr.members repr) (valid_bits T.elements)) }
         ensures { IsFresh (set.ascending (T.Repr.members repr)) T.Repr.PREFERRED_ARRAY_LEN result }
@@ -50,7 +52,7 @@ impl<T: EnumSetType> EnumSetIter<T> {
         EnumSetIter { iter: repr.iter() }
     }
 
-    /// Tells the proof that the bits left ascend, and that they are fewer than 2^32. It does nothing at run time.
+    /// Tells the proof that the bits left ascend, and that they are fewer than 2^32. The call does nothing at run time.
     #[inline]
     pub(crate) fn learn_left(&self)
         ensures ascends { AscendsFrom 0 self.now.items }
@@ -62,7 +64,7 @@ impl<T: EnumSetType> EnumSetIter<T> {
     }
 }
 
-/// An iterator with the same elements left, always `Ok`.
+/// `clone` returns an iterator with the same elements left, and never fails.
 impl<T: EnumSetType> Clone for EnumSetIter<T> {
     ghost use Rattle.std.specs.Prelude.{◌≡◌, ⊤};
 
@@ -85,6 +87,7 @@ impl<T: EnumSetType> fmt::Debug for EnumSetIter<T> {
     }
 }
 
+#[tactic(auto, unfolding(crate::specs::Elements::AreBitsOf))]
 impl<T: EnumSetType> Iterator for EnumSetIter<T> {
     type Item = T;
 
@@ -110,6 +113,7 @@ impl<T: EnumSetType> Iterator for EnumSetIter<T> {
     }
 }
 
+#[tactic(auto, unfolding(crate::specs::Elements::AreBitsOf))]
 impl<T: EnumSetType> DoubleEndedIterator for EnumSetIter<T> {
     ghost next_back_gives = { λ i r j. YieldsLastBy T.elements.bit (λ i. i.items) i r j
         × BoundsAsks i.asks i.span r j.asks j.span };

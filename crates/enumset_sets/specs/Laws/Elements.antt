@@ -5,10 +5,10 @@
 --     is_valid_bit      a bit is valid exactly if the list has it
 --     place_is, listed_bit_is      what the bit of a variant is
 --     place_is_valid, listed_bit_is_valid      the bit of a variant is valid
---     has_value      each number of the list of some values' bits is the bit of a value
---     HasValues      each listed bit is some value's
---     some_value, all_values      a test passes for some member of a set, or for all, exactly if it does for the bits of
---         its elements
+--     has_value      each number in the list of the bits of some values is the bit of one of them
+--     HasValues      each listed bit is the bit of some value
+--     some_value, all_values      a test passes for some member of a set, or for all, exactly if it does for the bits
+--         of its elements
 --     passed      what is known if a test passes
 --     derived_eq      what a derived `==` of such an enum returns
 -- The ruleset `bits_of_variants` says what the bit of each variant is, and that it is valid. It proves the functions of
@@ -32,7 +32,8 @@ use Rattle.enumset_repr.specs.Laws.Members.{contains_empty, contains_insert, con
 use Rattle.enumset_repr.specs.Number.{bits, is_distinct}
 use Rattle.enumset_repr.specs.Words.{bits_of, lists_words}
 pub use Rattle.enumset_sets.specs.Elements.{with_bits, in_order, in_place}
-use Rattle.enumset_sets.specs.Elements.{Elements, valid_bits, listed_bit, place, one_past, one_past_greatest, IsWidthOf, IsCountOf, IsElementType, AreBitsOf}
+use Rattle.std.specs.List.{list_all}
+use Rattle.enumset_sets.specs.Elements.{Elements, valid_bits, listed_bit, place, one_past, one_past_greatest, IsWidthOf, IsCountOf, IsElementType}
 
 -- ---- lists of numbers
 
@@ -53,7 +54,7 @@ len-from_list (b ∷ bs) apart = grind (arith, nat_tests, contains_from_list bs 
 one_past-insert : (s : BitSet) (b : ℕ) → one_past_greatest (insert s b) ≡ max (suc b) (one_past_greatest s)
 one_past-insert s b = at (greatest s) refl
   where
-    -- where m is in the set with b, and no number past m is
+    -- if m is in the set with b inserted, and no number past m is in the set
     is_last : (m : ℕ) → contains (insert s b) m ≡ true → ((q : ℕ) → m < q → contains s q ≡ false) → b ≤ m → one_past_greatest (insert s b) ≡ suc m
     is_last m one none from = ap one_past (greatest_is (insert s b) m one (λ q over. let gone = none q over in contains_insert s b q ∙ grind (arith, nat_tests)))
 
@@ -199,7 +200,8 @@ pub listed_bit_is : (D : Declared) (bs : List ℕ) (v : D.D) → listed_bit D bs
 unfolding listed_bit
 listed_bit_is D bs v = refl
 
--- A bit is valid. The first part shows the search where to use this: at a call that asks whether the bit is valid.
+-- The bit of a variant is valid. The first part shows the search where to use the law: at a call of `contains` for this
+-- bit and the valid bits.
 pub place_is_valid : (D : Declared) (v : D.D) → (contains (valid_bits (in_place D)) (place D v) ≡ contains (valid_bits (in_place D)) (place D v)) × (contains (valid_bits (in_place D)) (place D v) ≡ true)
 place_is_valid D v = (
   refl,
@@ -214,13 +216,13 @@ pub ruleset bits_of_variants = (place_is, listed_bit_is, place_is_valid, listed_
 -- ---- consequences of the laws
 
 -- the members of a set of valid bits are bits of variants
-pub AreBitsOf-ascending : (bs : List ℕ) (all s : BitSet) → all ≡ from_list bs → is_subset s all ≡ true → AreBitsOf (ascending s) bs
-AreBitsOf-ascending bs all s valid sub =
+pub bits_are_listed : (bs : List ℕ) (all s : BitSet) → all ≡ from_list bs → is_subset s all ≡ true → IsTrue (list_all (λ b. is_in b bs) (ascending s))
+bits_are_listed bs all s valid sub =
     list_all_each (λ b. is_in b bs) (ascending s) (λ q one. sym (contains_from_list bs q) ∙ sym (ap (λ t. contains t q) valid) ∙ is_subset_contains s all sub q (contains_ascending s q ∙ one))
 
 -- ---- members and elements
 
--- a number in the list of some values' bits is the bit of one of them
+-- a number in the list of the bits of some values is the bit of one of them
 pub has_value : {T : Type 0} (bit : T → ℕ) (vs : List T) (b : ℕ) → is_in b (map bit vs) ≡ true → (v : T) × (bit v ≡ b)
 has_value bit [] b one = absurd (true≢false (sym one))
 has_value {T} bit (v ∷ vs) b one = elim (b == bit v) as (λ t. (b == bit v) ≡ t → (t || is_in b (map bit vs)) ≡ true → (w : T) × (bit w ≡ b)) [
@@ -228,21 +230,21 @@ has_value {T} bit (v ∷ vs) b one = elim (b == bit v) as (λ t. (b == bit v) �
   | false ↦ λ _ later. has_value bit vs b later
 ] refl one
 
--- each bit of the list is some value's
+-- each bit of the list is the bit of some value
 abbrev pub HasValues : {T : Type 0} → Elements T → Type 0
 HasValues {T} elements = (b : ℕ) → IsTrue (is_in b elements.bit_list) → (v : T) × (elements.bit v ≡ b)
 
 value_of : {T : Type 0} (elements : Elements T) → HasValues elements → (s : BitSet) → is_subset s (valid_bits elements) ≡ true → (b : ℕ) → contains s b ≡ true → (v : T) × (elements.bit v ≡ b)
 value_of elements values s valid b one = values b (sym (is_valid_bit elements b) ∙ is_subset_contains s _ valid b one)
 
--- a test passes for some member exactly if for the bit of some element
+-- a test passes for some member exactly if it passes for the bit of some element
 pub some_value : {T : Type 0} (elements : Elements T) → HasValues elements → (s : BitSet) (p : ℕ → Bool) → IsTrue (is_subset s (valid_bits elements)) → ((b : ℕ) × IsTrue (contains s b) × IsTrue (p b)) ↔ ((v : T) × IsTrue (contains s (elements.bit v)) × IsTrue (p (elements.bit v)))
 some_value elements values s p valid = (
   λ some. let at = value_of elements values s valid some.0 some.1 in (at.0, subst (λ b. contains s b ≡ true) (sym at.1) some.1, subst (λ b. p b ≡ true) (sym at.1) some.2),
   λ some. (elements.bit some.0, some.1, some.2),
 )
 
--- a test passes for all members exactly if for the bits of all elements
+-- a test passes for all members exactly if it passes for the bits of all elements
 pub all_values : {T : Type 0} (elements : Elements T) → HasValues elements → (s : BitSet) (p : ℕ → Bool) → IsTrue (is_subset s (valid_bits elements)) → ((b : ℕ) → IsTrue (contains s b) → IsTrue (p b)) ↔ ((v : T) → IsTrue (contains s (elements.bit v)) → IsTrue (p (elements.bit v)))
 all_values elements values s p valid = (
   λ all v one. all (elements.bit v) one,

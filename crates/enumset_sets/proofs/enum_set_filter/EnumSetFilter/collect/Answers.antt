@@ -1,4 +1,4 @@
-use Rattle.enumset_sets.specs.Calls.{FilterCollects}
+use Rattle.enumset_sets.specs.Calls.{FilterCollects, left}
 use Rattle.std.proofs.Common.{refl}
 use Rattle.enumset_sets.proofs.Filters.{collected}
 use Rattle.enumset_sets.proofs.enum_set_filter.EnumSetFilter.collect.Goals as goal
@@ -14,4 +14,5 @@ unfolding FilterCollects
 returns-clause-calls g c = rw (← c.self.view_is) c.collect.ensures.ran
 
 pub returns-clause-selected : goal.returns-clause-selected
+unfolding left
 returns-clause-selected g c = rw (← c.self.view_is) (λ keeps. collected _ _ _ keeps _ refl c.self.invariant.0 _ _ _ c.collect.ensures.ran)

@@ -1,4 +1,4 @@
-use Rattle.enumset_sets.specs.Calls.{FilterCounts}
+use Rattle.enumset_sets.specs.Calls.{FilterCounts, left}
 use Rattle.std.proofs.Common.{inl, arith, refl}
 use Rattle.enumset_sets.proofs.Filters.{counted}
 use Rattle.enumset_sets.proofs.enum_set_filter.EnumSetFilter.count.Goals as goal
@@ -14,4 +14,5 @@ unfolding FilterCounts
 returns-clause-calls g c = rw (← c.self.view_is) c.count.ensures.ran
 
 pub returns-clause-selected : goal.returns-clause-selected
+unfolding left
 returns-clause-selected g c = rw (← c.self.view_is) (λ keeps. counted _ _ _ keeps _ refl c.self.invariant.0 _ c.count.ensures.ran)

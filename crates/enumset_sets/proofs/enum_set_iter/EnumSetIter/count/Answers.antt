@@ -1,6 +1,8 @@
 use Rattle.std.proofs.Common.{sym, ◌∙◌}
+use Rattle.enumset_sets.specs.Calls.{left}
 use Rattle.enumset_sets.proofs.Left.{len_left}
 use Rattle.enumset_sets.proofs.enum_set_iter.EnumSetIter.count.Goals as goal
 
 pub returns : goal.returns
+unfolding left
 returns g c = c.len.ensures.value ∙ sym (len_left _ c.learn_left.ensures.ascends)

@@ -1,4 +1,5 @@
 use Rattle.std.proofs.Common.{◌≡◌, ◌<◌, ℕ, zero, suc, ◌+◌, ◌-◌, ◌*◌, ◌^◌, true, false, ◌&&◌, List, [], ◌∷◌, ◌++◌, length, replicate, slice_index, ◌==◌, if◌then◌else◌, nat_lt, refl, ap, ◌∙◌, arith, lit<, length-append, take_all}
+use Rattle.std.proofs.lemmas.Bool.{or_right}
 use Rattle.std.proofs.lemmas.Bool.Decides.{nat_tests}
 use Rattle.std.proofs.lemmas.List.{length-replicate, drop_all}
 use Rattle.std.specs.List.{list_all}
@@ -6,7 +7,7 @@ use Rattle.enumset_repr.specs.BitSet.{from_list}
 use Rattle.enumset_repr.specs.Laws.BitLists.{words_listed}
 use Rattle.enumset_repr.specs.Number.{lists_bits}
 use Rattle.enumset_repr.specs.Words.{bits_of, lists_words}
-use Rattle.enumset_array.specs.ArrayWords.{in_use, set_of, IsArrayRepr}
+use Rattle.enumset_array.specs.ArrayWords.{in_use, set_of, is_zero_past, IsArrayRepr}
 use Rattle.enumset_sets.specs.Laws.Elements.{lawful_in}
 use Rattle.enumset_worked.specs.contracts.pair_words.PairWords.{the_type}
 use Rattle.tests_of_sets.specs.FarWords.{far_words}
@@ -51,10 +52,11 @@ far_fit n (suc i) = rest_fit n i
 
 -- the words as an `ArrayRepr`, all of which are in use
 far_repr : (n m : ℕ) → m ≡ n + 2 → in_use m ≡ m → IsArrayRepr m (far_words n)
+unfolding is_zero_past
 far_repr n m is all = record {
   long = omega (arith, length-far n, is);
   fit = far_fit n;
-  past = ap (list_all (λ w. w == 0)) (drop_all (in_use m) (far_words n) (omega (arith, length-far n, is, all)));
+  past = or_right _ _ (ap (list_all (λ w. w == 0)) (drop_all (in_use m) (far_words n) (omega (arith, length-far n, is, all))));
 }
 
 far_set : (n m b : ℕ) → m ≡ n + 2 → in_use m ≡ m → b ≡ 64 * n + 127 → set_of m (far_words n) ≡ from_list (0 ∷ b ∷ [])
