@@ -50,13 +50,13 @@ no_digits : (e : List ℕ) → is_ascii_digit (first_of e) ≡ false → prefix_
 no_digits [] none = refl
 no_digits (c ∷ e) none = ap (λ b. cond b (1 + prefix_len is_ascii_digit e) 0) none
 
--- ---- digits before it
+-- ---- digits before what ends a number
 
 -- xs is digits, and then e
 abbrev IsRun : List ℕ → List ℕ → Type 0
 IsRun xs e = (n : ℕ) × (1 + prefix_len is_ascii_digit xs ≡ suc n) × (drop n xs ≡ e)
 
--- the digits before e, after the byte x before them
+-- the byte x and the digits after it, up to e
 abbrev whole : ℕ → List ℕ → List ℕ → List ℕ
 whole x xs e = take (suc (length xs) - length e) (x ∷ xs)
 

@@ -34,7 +34,7 @@ spaces (x ∷ g) z h = let rest = spaces g z h.1 in at_space (λ x. Same (x ∷ 
 
 -- ---- what may follow an item
 
--- a text that ends a number, a string, and a member of either boolean
+-- a text before which a number, a string, and a member with either boolean end
 abbrev pub Stops : List ℕ → Type 0
 Stops rest =
     Ends rest × (drop 1 (tokens (49 ∷ rest)) ≡ after_value rest) × (tokens (34 ∷ 34 ∷ rest) ≡ text_token false [] ∷ after_value rest)

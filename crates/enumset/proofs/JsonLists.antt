@@ -1,4 +1,4 @@
--- What serde_json reads for a list of plain strings, one string at a time, and what it writes for one.
+-- What serde_json reads for a list of plain strings, one string at a time, and what it writes for such a list.
 use Rattle.std.proofs.Common.{◌≡◌, ℕ, List, [], ◌∷◌, ◌++◌, Some, map, refl, sym, ap, ◌∙◌, arith, append_assoc, subst, Bool, false, true, not, cond, length, ◌==◌, length-append}
 use Rattle.std.proofs.lemmas.Simd.{map-map}
 use Rattle.std.specs.Prelude.{⊤}
@@ -18,7 +18,7 @@ use Rattle.enumset.specs.Names.{Names, name_of}
 
 -- ---- what is read, with spaces between tokens
 
--- a list from its first item on
+-- a text that opens a list is read as the list from its first item on
 pub opened : (text rest left : List ℕ) → Passed text 91 rest → tokens rest ≡ tokens left → read text ≡ read (91 ∷ left)
 opened text rest left found same = same_read text (91 ∷ left) (passed text 91 rest found ∙ opens.0 rest ∙ ap (λ ts. tokens (91 ∷ []) ++ ts) same ∙ sym (opens.0 left))
 

@@ -19,8 +19,8 @@ module _ (P : ℕ → Type 0) where
   pub one_more : (xs : List ℕ) (i : ℕ) → i < length xs → AllByRecursion P (take i xs) → P (get_or xs i 0) → AllByRecursion P (take (i + 1) xs)
   one_more xs i within so_far one = run_on xs i i 1 (i + 1) (omega arith) refl so_far (subst (λ ys. AllByRecursion P (take 1 ys)) (sym (drop_more xs i 0 within)) (one, tt))
 
-  -- if a text is two runs of such bytes, each with something after it, and the first run is the longer one, it is the
-  -- second run and more
+  -- if a text begins with two runs of such bytes, and no such byte follows the first run, this run is the second one
+  -- and more
   pub further : (s t xs ys : List ℕ) → AllByRecursion P s → AllByRecursion P t → (Begins P xs → ⊥) → s ++ xs ≡ t ++ ys → (ds : List ℕ) × AllByRecursion P ds × (s ≡ t ++ ds) × (ys ≡ ds ++ xs)
   further s [] xs ys ps pt none e = (s, ps, refl, sym e)
   further (a ∷ s) (b ∷ t) xs ys ps pt none e =

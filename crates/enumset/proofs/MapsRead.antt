@@ -73,7 +73,8 @@ module _ (names : Names) where
 
   -- ---- the loop of the scanner
 
-  -- some members were read, as this set, and the members that are left, after an opening quote, are put in after them
+  -- some members were read, whose set is s, and the members that are left, after an opening quote, are put in after
+  -- them
   abbrev pub Scanned : List ℕ → List ℕ → BitSet → BitSet → Type 0
   Scanned text left seen s =
       (done : Members) × Each (IsSeen seen) done × (set_in done ≡ s) × ((ms : List (List ℕ × Bool)) → tokens (34 ∷ left) ≡ member_tokens ms → read text ≡ Some (object (put_all ms done)))

@@ -88,7 +88,7 @@ named_as (c ∷ bs) (n ∷ names) b t len agree =
     at : (c b : ℕ) (later : Bool) → bit_named (zip bs names) t ≡ cond later (Some b) None → cond (c == b) (Some c) (bit_named (zip bs names) t) ≡ cond ((b == c) || later) (Some b) None
     at c b later rest = grind (arith, nat_tests, rest)
 
--- names of two types that agree, at one bit of the second
+-- if the names of two types agree, the name of a bit of the second is known to the first exactly if it has this bit
 pub agree_at : (os : List ℕ) (olds : List (List ℕ)) (bs : List ℕ) (names : List (List ℕ)) (b : ℕ) → AreNames os olds → AreNames bs names → names_agree (zip os olds) (zip bs names) ≡ true → is_in b bs ≡ true
     → bit_named (zip os olds) (name_of (zip bs names) b) ≡ cond (is_in b os) (Some b) None
 agree_at os olds bs names b old are agree one = named_as os olds b _ old.as_many (each (zip os olds) agree)

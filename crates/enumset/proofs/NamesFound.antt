@@ -15,7 +15,7 @@ unfolding texts
 among (n ∷ ns) t b is = grind (arith, is, among ns t b)
 among [] t b is = absurd (cc)
 
--- if no name occurs twice, a name that is found in the later part is the first
+-- if no name occurs twice, a name that is found in the later part is the first of this name in the whole list
 later_at : (xs ys : Names) (t : List ℕ) (b : ℕ) → are_distinct (texts (xs ++ ys)) ≡ true → bit_named ys t ≡ Some b → bit_named (xs ++ ys) t ≡ Some b
 unfolding texts
 later_at [] ys t b apart is = is

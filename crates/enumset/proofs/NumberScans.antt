@@ -68,7 +68,7 @@ value_after : (n : ℕ) (xs ys : List ℕ) → digits_value_after 10 n (xs ++ ys
 value_after n [] ys = refl
 value_after n (x ∷ xs) ys = value_after (n * 10 + digit_value x) xs ys
 
--- a number whose digits begin with those of another and a further one
+-- a number whose digits begin with those of n and a further digit d is at least n * 10 + d
 pub more_digits : (m n d : ℕ) (ds : List ℕ) → m < 2 ^ 64 → n < 2 ^ 64 → decimal m ≡ decimal n ++ d ∷ ds → n * 10 + digit_value d ≤ m
 more_digits m n d ds fits small e =
     let value = sym (decimal_is_IsNumeral m fits).1 ∙ ap (digits_value 10) e ∙ value_after 0 (decimal n) (d ∷ ds) ∙ ap (λ k. digits_value_after 10 k (d ∷ ds)) (decimal_is_IsNumeral n small).1 in

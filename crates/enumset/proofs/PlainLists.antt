@@ -22,7 +22,7 @@ use Rattle.enumset.specs.declared.set_json.unknown.Unknown.TheVariants.{Drop, Re
 pub is_read : (reader : Data → Result BitSet JsonFault) (text : List ℕ) (wanted result : Result BitSet JsonFault) → value_read reader text ≡ Some wanted → result ≡ wanted → IsResult (value_read reader text) result
 is_read reader text wanted result e is = subst (λ o. IsResult o result) (sym e) is
 
--- the result for a text that the parser refused
+-- the result for a text that the parser rejects
 pub refused : (reader : Data → Result BitSet JsonFault) (text : List ℕ) (result : Result BitSet JsonFault) (Memory : Type 0)
     → IsErrAnd result (λ fault. (Memory × (fault ≡ OutOfMemory)) ⊎ ((Memory → ⊥) × ((line : ℕ) × (fault ≡ NotJson line)))) → ((Memory → ⊥) → read text ≡ None) → IsReadOf reader text result
 refused reader text (Ok s) Memory gives none = absurd gives
@@ -35,7 +35,8 @@ no_unknown Drop s t same = ap Ok same
 no_unknown Refuse s t same = ap Ok same
 
 module _ (names : Names) (unknown : Unknown) (text : List ℕ) where
-  -- if what is left after an opening quote goes on as a list, the text is read as the names before it and then this list
+  -- if what is left after an opening quote goes on as a list, the text is read as the names before it and then this
+  -- list
   abbrev pub GoesOn : List ℕ → ℕ → BitSet → Option ℕ → Type 0
   GoesOn left place s first =
       (ds : Items) → read (91 ∷ 34 ∷ left) ≡ Some (array ds) → value_read (set_of_list names unknown) text ≡ Some (list_on names unknown place s first (values_of ds))

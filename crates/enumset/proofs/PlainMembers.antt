@@ -16,7 +16,7 @@ use Rattle.enumset.specs.JsonNames.{is_unknown}
 use Rattle.enumset.specs.JsonPlain.{IsPlain, IsSpaced, later_tokens, member_tokens, IsPlainMap, Passed, StartsWithMember}
 use Rattle.enumset.specs.Names.{Names, bit_named, are_distinct}
 
--- a member takes up its text
+-- what follows a member is shorter than the text that begins with it
 pub member_less : (left name : List ℕ) (b : Bool) (rest : List ℕ) → StartsWithMember left name b rest → length rest < length left
 member_less left name b rest (plain, (g, h, gs, hs, is)) = omega (arith, ap length is, length-append {A = ℕ})
 

@@ -40,7 +40,7 @@ abbrev pub Next : ℕ → (List ℕ → Type 0) → List ℕ → Type 0
 Next x P rest = (after : List ℕ) × Passed rest x after × P after
 
 module _ (P : List ℕ → Type 0) where
-  -- what a scanner of a byte found, and that it found something
+  -- where the byte x is next, a scanner of x finds it, and P is true of what follows
   pub next : (x : ℕ) (text bytes rest : List ℕ) → bytes ≡ text → Next x P text → ((after : List ℕ) → Passed bytes x after → rest ≡ after) → P rest
   next x text bytes rest same (after, passed, more) found =
       subst P (sym (found after (subst (λ t. Passed t x after) (sym same) passed))) more
@@ -149,7 +149,7 @@ abbrev pub NamesLeft : List ℕ → Type 0
 NamesLeft left =
     (name : List ℕ) × (names : List (List ℕ)) × (rest : List ℕ) × IsPlain name × AllByRecursion IsPlain names × (left ≡ name ++ 34 ∷ rest) × IsSpaced (later_tokens 93 (map name_tokens names)) rest
 
--- what follows a name's opening quote
+-- a name with its closing quote, and what follows it
 pub unquoted : (name rest : List ℕ) → (name ++ 34 ∷ []) ++ rest ≡ name ++ 34 ∷ rest
 unquoted name rest = append_assoc name (34 ∷ []) rest
 

@@ -26,7 +26,7 @@ module _ (text : List ℕ) (width : ℕ) where
       (ws : List ℕ) × (length ws ≡ place) × AreRead ws place width s is_whole
       × ((g digits more : List ℕ) → AreSpaces g → left ≡ g ++ digits → IsNumberFirst digits → read (91 ∷ digits) ≡ Some (words_value more) → read text ≡ Some (words_value (ws ++ more)))
 
-  -- the array was read
+  -- the text was read as an array of words, of which s has the bits below the width
   abbrev pub IsRead : BitSet → Bool → Type 0
   IsRead s is_whole =
       (ws : List ℕ) × (read text ≡ Some (words_value ws)) × (s ≡ low (bits_of ws) width) × (is_whole ≡ is_subset (bits_of ws) (below width))

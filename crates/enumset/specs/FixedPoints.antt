@@ -1,13 +1,15 @@
--- The words of clauses about least fixed points, and their laws, by one name.
+-- The terms of clauses about least fixed points, and their laws, in one module.
 --     union_over      the union of the sets that the members of a set lead to
 --     IsMonotone, IsClosed, IsReached, IsLeastClosed      steps from sets to sets, and what they reach
 --     leading_to      the numbers of a set that lead to some member of another set
 --     IsWorklist, IsPass, IsReachable      searches, and what they find; at_start and from_other make an IsReachable
 --     LeadsBy      a closure that returns to which elements its argument leads
 --     concluded      what follows from a set by rules
---     set_at, AreWithin, IsMonotoneForMany, AreClosed, AreReached, AreLeastClosed      the same of several sets at once
+--     set_at, AreWithin, IsMonotoneForMany, AreClosed, AreReached, AreLeastClosed      the same for several sets at
+--         once
 --     gathered      the step that takes sets from other places
---     IsPassOverMany, ArePassed, lacking, passes_left      passes over several sets, and the measure of a loop over them
+--     IsPassOverMany, ArePassed, lacking, passes_left      passes over several sets, and the measure of a loop over
+--         them
 --     the laws, which docs/LAWS.md lists
 -- `ghost use Rattle.enumset.specs.FixedPoints.{IsLeastClosed, union_over};`
 pub use Rattle.enumset_sets.specs.FixedPoints.{IsMonotone, IsClosed, IsReached, IsLeastClosed, IsWorklist, IsPass, IsReachable, at_start, from_other, LeadsBy}

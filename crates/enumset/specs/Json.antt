@@ -2,7 +2,7 @@
 --     width_of      how many bits a width has
 --     and_then      the next step with what was read, or the fault
 --     whole_number      the whole number from 0 to 2 ^ 64 - 1 that a value holds, or the fault
---     number_below      the number of a value, or the fault, also where it is not below 2 ^ width
+--     number_below      the number of a value, or the fault:  `OutOfRange` if the number is not below 2 ^ width
 --     unless_fault      a result, or the fault at an index if there is one
 --     values_of      the elements of an array
 --     held_word, held_words      the word that an element holds, if it holds one;  the words of all elements, with 0

@@ -1,5 +1,6 @@
--- Plain texts, which are read without memory, and strings that need no escape in JSON. The clauses of public calls cite
--- IsPlainNumber, IsPlainWords, IsPlainList and IsPlainMap. The other names serve these and private functions.
+-- Plain texts, which are read without an allocation, and strings that need no escape in JSON. A text is the list of the
+-- bytes of a string. The clauses of public calls cite IsPlainNumber, IsPlainWords, IsPlainList and IsPlainMap. The
+-- other names serve these and private functions.
 --     IsPlainByte, IsPlain      a byte needs no escape in a string;  each byte of a list needs none
 --     is_space, AreSpaces      whether a byte is allowed between tokens;  each byte of a list is
 --     Begins      a list begins with a byte that has a property
@@ -12,8 +13,8 @@
 --     IsPlainList      a text is an array of strings that need no escape
 --     IsPlainMap      a text is an object of booleans, whose names are known, need no escape, and come once each
 --     Passed      spaces, a byte, and what follows it
---     IsTextOf, IsTextIfPlain      a text is what a value is written as, and reads as the value;  a result is such a
---         text if it is a text
+--     IsTextOf, IsTextIfPlain      a text is what a value is written as, and reads as the value;  if a result is a
+--         text, it is such a text
 --     StartsWithMember      a plain name up to its closing quote and a boolean, with spaces, and what follows them
 --     AreRising      each of some names is before the later ones, in the order of their bytes
 --     IsName      a text is the name of one of some bits
@@ -47,7 +48,7 @@ abbrev pub Begins : (ℕ → Type 0) → List ℕ → Type 0
 Begins P [] = ⊥
 Begins P (x ∷ xs) = P x
 
--- ---- texts that are read without memory
+-- ---- texts that are read without an allocation
 
 abbrev pub IsSpaced : List (List ℕ) → List ℕ → Type 0
 IsSpaced [] text = AreSpaces text

@@ -3,7 +3,7 @@
 --     IsResult      a result is the expected one;  if none is expected, since the text is not a value, it is the fault
 --         `NotJson` at some line
 --     IsReadOf      a result is that of a reader for the value that a text is, or the fault `NotJson` at some line if
---         the text is not a value;  or memory was refused
+--         the text is not a value, or the fault `OutOfMemory`
 use Rattle.std.specs.Prelude.{◌≡◌, ◌⊎◌, ℕ, List, Option, Some, None, option_map, Result, Err}
 use Rattle.enumset_repr.specs.BitSet.{BitSet}
 use Rattle.serde_json.specs.Data.{Data}

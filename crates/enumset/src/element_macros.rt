@@ -34,7 +34,8 @@ macro_rules! variant_of {
             }
         }
     }};
-    // No bit is left. The proof learns this for 64 bits at a time, since it cannot handle many more than 128 at once.
+    // No bit is left for the last arm. The proof learns this for 64 bits at a time, since it cannot handle many more
+    // than 128 at once.
     (
         @none $bit:ident
         $a0:literal $a1:literal $a2:literal $a3:literal $a4:literal $a5:literal $a6:literal $a7:literal
@@ -62,8 +63,8 @@ macro_rules! variant_of {
     (@none $bit:ident $($at:literal)+) => {
         $crate::variants::is_listed($bit, &[$($at),+])
     };
-    // The last arm is never taken. With more than sixteen variants it is one of them, so that the match can compile to
-    // a load from a table. With fewer it is unreachable, so that the number of the variant can compile to the bit.
+    // The last arm is never taken. With more than sixteen variants it names one of them, so that the match can compile
+    // to a load from a table. With at most sixteen it is `unreachable!()`, so that the match can compile to the bit.
     (
         @last $of:ident $v0:ident $v1:ident $v2:ident $v3:ident $v4:ident $v5:ident $v6:ident $v7:ident
         $v8:ident $v9:ident $v10:ident $v11:ident $v12:ident $v13:ident $v14:ident $v15:ident $($variant:ident)+
@@ -77,8 +78,8 @@ macro_rules! variant_of {
 
 /// Returns the table that [`EnumSetNames::names`](crate::EnumSetNames::names) has to return:
 /// `names_of!(Right: Read Write Share)` lists all variants of the enum in the order of the list of bits, each under its
-/// own name. Any other name follows its variant: `names_of!(Right: Read "read" Write "write" Share "share")`. It has no
-/// counterpart in Rust's `enumset`.
+/// own name. Any other name follows its variant: `names_of!(Right: Read "read" Write "write" Share "share")`. Rust's
+/// `enumset` has no such macro.
 #[macro_export]
 macro_rules! names_of {
     ($of:ident:) => {

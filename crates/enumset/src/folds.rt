@@ -1,8 +1,8 @@
 //! Folds of everything that an iterator yields into a set: elements are inserted, sets are united.
 //!
 //! Each mirrors an impl of `Extend`, `FromIterator` or `Sum` in Rust's `enumset` that the traits of std do not allow
-//! here. The functions named `extend` start from the set handed in, the others from the empty set. The order and the
-//! repeats of items do not matter. None takes memory.
+//! here. The functions with `extend` in their names start from the set handed in, the others from the empty set. The
+//! order and the repeats of items do not matter. None of the functions allocates.
 
 mod into_mixed_sets;
 mod into_sets;

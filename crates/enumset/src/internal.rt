@@ -1,5 +1,5 @@
-//! What a crate with its own representation names, and what the macros call. It mirrors the module `__internal` of
-//! Rust's `enumset`.
+//! What a crate with its own representation names, and what the macros call. The module mirrors the module `__internal`
+//! of Rust's `enumset`.
 
 pub mod set;
 

@@ -1,12 +1,12 @@
 //! Laws of sets. Each is a function that does nothing at run time, except [`bits_have_values`] and the laws of asks.
 //! Code that needs a law calls it, and the proof of that code then knows what the function ensures.
 //!
-//! This module has the laws of round trips through JSON: the value that was written for a set is read as that set. The
-//! clause `reads` of each writer of texts says that its text is read as this value, so the laws hold for texts too. The
-//! laws of members, numbers, words and hashes come from `enumset_sets`, the equations of sets and the laws of their
-//! order and of representations from `enumset_repr`, and all others from the modules below: what a reader of another
-//! element type reads, elements, complements, mixed sets, folds, iterators from both ends, and asks. Most laws that are
-//! about sets only are in rulesets. Rust's `enumset` has no laws.
+//! This module has the laws of names and of round trips through JSON: the value that was written for a set is read as
+//! that set. The clause `reads` of each writer of strings says that its string is read as this value, so the laws hold
+//! for strings too. The laws of members, numbers, words and hashes come from `enumset_sets`, the equations of sets and
+//! the laws of their order and of representations from `enumset_repr`, and all others from the modules below: what a
+//! reader of another element type reads, elements, complements, mixed sets, folds, iterators from both ends, and asks.
+//! Most laws that are about sets only are in rulesets. Rust's `enumset` has no laws.
 
 ghost use Rattle.std.specs.Prelude.{◌≡◌, Ok, Some, IsTrue};
 ghost use Rattle.enumset_repr.specs.BitSet.{below, is_subset};
@@ -71,7 +71,7 @@ pub fn json_words_and_back<T: EnumSetType>(set: &EnumSet<T>, unknown: Unknown)
 pub fn json_mixed_number_and_back<T: EnumSetTypeWithRepr>(set: &MixedEnumSet<T>)
     ensures { mixed_set_of_number T.Repr.WIDTH (number_value (number set.now)) ≡ Ok set.now }
 {
-    // Each member of a value is below the width.
+    // Tells the proof that each member is below the width.
     set.as_repr().learn_is_value();
 }
 
@@ -82,7 +82,7 @@ pub fn json_mixed_words_and_back<T: EnumSetTypeWithRepr>(set: &MixedEnumSet<T>, 
         (words_value (words set.now T.Repr.PREFERRED_ARRAY_LEN))
         ≡ Ok set.now }
 {
-    // Each member of a value is below the width.
+    // Tells the proof that each member is below the width.
     set.as_repr().learn_is_value();
 }
 

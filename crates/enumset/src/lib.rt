@@ -7,8 +7,8 @@
 //!
 //! # Element types
 //!
-//! An element type is an enum with an impl of [`EnumSetType`]. The program `enumset_derive` writes this impl from an enum
-//! that has the attribute `#[derive(EnumSetType)]` in its source.
+//! An element type is an enum with an impl of [`EnumSetType`]. The program `enumset_derive` writes this impl from an
+//! enum that has the attribute `#[derive(EnumSetType)]` in its source.
 //!
 //! ```rust
 //! pub enum Letters {
@@ -31,7 +31,8 @@
 //! assert!(rt; set.len() == 3);
 //! ```
 //!
-//! Sets have the operators of integers. `-` is the difference, and `!` has the variants that are not in the set:
+//! Sets have the operators of integers. `-` is the difference, and `!` is the set of the variants that are not in a
+//! set:
 //!
 //! ```rust
 //! let (ab, bc) = (Letters::A | Letters::B, Letters::B | Letters::C);

@@ -10,7 +10,7 @@ use enumset_sets::EnumSetType;
 ///
 /// Rust's `enumset` takes the names that `serde` derives. Here [`names_of!`](crate::names_of) lists them.
 pub trait EnumSetNames: EnumSetType + 'static {
-    // The names, one for each bit of the list of bits, in its order.
+    // The names, one for each bit of the list of bits, in the order of this list.
     ghost names: { List (List ℕ) };
 
     /// Returns each variant with its name, in the order of the list of bits.
@@ -24,7 +24,7 @@ pub trait EnumSetNames: EnumSetType + 'static {
     {
         let bit = self.enum_into_u32();
         let names = Self::names();
-        // In most types the bit is the index in the list.
+        // In most types the bit of a variant is its index in the list.
         if let Some((value, name)) = names.get(bit as usize)
             && value.enum_into_u32() == bit
         {
@@ -38,7 +38,7 @@ pub trait EnumSetNames: EnumSetType + 'static {
         ""
     }
 
-    /// Returns the value that has this name, if there is one. Rust's `enumset` has no such call; `FromStr` would have
+    /// Returns the value with the name `text`, if there is one. Rust's `enumset` has no such call; `FromStr` would have
     /// to return a `Result`.
     final fn of_name(text: &str) -> Option<Self>
         ensures { option_map Self.elements.bit result
@@ -48,12 +48,13 @@ pub trait EnumSetNames: EnumSetType + 'static {
         Some(value)
     }
 
+    // There are as many names as bits, and no two are the same.
     ghost named: { IsNaming Self.elements.bit_list names };
 }
 
-/// The value that has this name, if there is one. The search begins at the index `next` and then goes on from the
-/// front, since most lists and maps have their names in the order of the table. `next` becomes the index after the name
-/// that was found.
+/// Returns the value with this name, if there is one. The search begins at the index `next` of the type's names and
+/// then goes on from the front, since most lists and maps have their names in the order of the type. `next` becomes the
+/// index after the name that was found.
 #[inline(always)]
 pub(crate) fn find_value<T: EnumSetNames>(wanted: &[u8], next: &mut usize) -> Option<T>
     ensures { option_map T.elements.bit result
@@ -71,7 +72,7 @@ pub(crate) fn find_value<T: EnumSetNames>(wanted: &[u8], next: &mut usize) -> Op
     Some(value)
 }
 
-/// The first value of a list that has this name, and its index.
+/// Returns the index of the first value of a list that has this name, and the value, or `None` if none has it.
 #[inline(always)]
 fn find_in<T: EnumSetType>(names: &[(T, &str)], wanted: &[u8]) -> Option<(usize, T)>
     ensures within { IfSome result (λ found. found.0 < length names.now) }
@@ -88,8 +89,8 @@ fn find_in<T: EnumSetType>(names: &[(T, &str)], wanted: &[u8]) -> Option<(usize,
     None
 }
 
-/// Whether a name has exactly these bytes. The last eight are compared first, since names that begin alike seldom end
-/// alike.
+/// Returns whether a name has exactly these bytes. The last eight are compared first, since names that begin alike
+/// seldom end alike.
 #[inline(always)]
 fn has_bytes(name: &str, wanted: &[u8]) -> bool
     ensures { result ≡ bytes_eq name.now wanted.now }

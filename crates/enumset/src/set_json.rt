@@ -1,7 +1,7 @@
-//! Sets to and from JSON values of `serde_json`, and to and from JSON texts: as one number, as the array of the set's
-//! words of 64 bits, as the list of its members' names, or as a map of names to booleans.
+//! Sets to and from JSON values of `serde_json`, and to and from strings of JSON: as one number, as the array of the
+//! set's words of 64 bits, as the list of its members' names, or as a map of names to booleans.
 //!
-//! In Rust's `enumset` these are the forms that its `serde` feature writes and reads.
+//! These are the forms that the `serde` feature of Rust's `enumset` writes and reads.
 
 mod digits;
 mod fault;

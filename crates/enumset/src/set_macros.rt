@@ -1,6 +1,6 @@
 //! The macros of sets: elements that are written out, and operations over many sets.
 //!
-//! Each mirrors the macro of the same name of Rust's `enumset`. They are expressions in the body of a function.
+//! Each macro mirrors the one of the same name of Rust's `enumset`, and is an expression in the body of a function.
 //! Elements and sets are paths.
 
 /// Returns the [`EnumSet`](crate::EnumSet) of elements joined by `|`, such as `enum_set!(Right::Read | Right::Share)`,

@@ -12,7 +12,7 @@ use Rattle.enumset_array.specs.Order.{highest_first}
 
 -- ---- what decides
 
--- lists that are equal from the first place on
+-- lists that are equal from place 0 on compare as equal
 pub all_equal : (a b : List ℕ) (i : ℕ) → i ≡ 0 → drop i a ≡ drop i b → Equal ≡ highest_first a b
 all_equal a b i none same =
     let whole : a ≡ b = ap (λ n. drop n a) (sym none) ∙ same ∙ ap (λ n. drop n b) none in
@@ -21,7 +21,7 @@ all_equal a b i none same =
 kept : (o p : Ordering) (u v : ℕ) → MatchOrdering o (u < v) (u ≡ v) (v < u) → u ≢ v → ordering_then o p ≡ o
 kept o p u v h apart = grind (arith, nat_tests, h, apart)
 
--- two words that differ decide if the words after them are equal
+-- the words at place i decide how the lists compare, if these two words differ and all words after them are equal
 pub decided : (a b : List ℕ) (i : ℕ) → length a ≡ length b → i < length a → slice_index a i ≢ slice_index b i → drop (suc i) a ≡ drop (suc i) b
     → highest_first a b ≡ nat_cmp (slice_index a i) (slice_index b i)
 decided (x ∷ a) (y ∷ b) zero long under apart same =
@@ -34,7 +34,7 @@ decided a b i long under apart same = absurd (omega (arith, long, under))
 
 -- ---- lists that are equal from a place on
 
--- lists that are equal from a place on, and in the n words below it, are equal from n words lower
+-- lists that are equal from the place i + n on, and in the n words below that place, are equal from place i on
 pub block_lower : (a b : List ℕ) (i n end : ℕ) → end ≡ i + n → length a ≡ length b → end ≤ length a → none_in (zip2 bit_xor (chunk i n a) (chunk i n b)) ≡ true
     → drop end a ≡ drop end b → drop i a ≡ drop i b
 block_lower a b i n end next long under none same =

@@ -1,4 +1,4 @@
--- Loops over lists of words, four words at a time.
+-- Loops over lists of words: what an iteration over four words, over a block of words, or over one word does.
 use Rattle.std.proofs.Common.{◌≡◌, ◌≢◌, ◌<◌, ◌≤◌, ℕ, zero, suc, ◌+◌, ◌-◌, ◌*◌, ◌/◌, Bool, true, false, ◌&&◌, List, [], ◌∷◌, length, take, drop, get_or, set, add-one, ◌++◌, bit_and, bit_or, refl, sym, ap, ◌∙◌, arith, w64, map, ◌==◌, nat_eq, slice_index, bit_xor, take-append-drop, get_or-drop, take_all, take_at, take-take, drop_at, drop-drop, append-nil, append_assoc, length-append, length-drop, length-take-le}
 use Rattle.std.proofs.Math.Bool.{and-true, and_assoc}
 use Rattle.std.proofs.Math.Seq.{take-add}
@@ -43,7 +43,7 @@ module _ (op : ℕ → ℕ → ℕ) (a b : List ℕ) where
   abbrev pub PartMade : ℕ → List ℕ → Type 0
   PartMade i ws = ws ≡ take i all ++ drop i a
 
-  -- the list itself, if its first words are the results for them
+  -- a itself, if its first j words are their own results
   pub made_before : (i j : ℕ) → i ≤ j → take j a ≡ take j all → PartMade i a
   made_before i j low same = sym (take-append-drop i a) ∙ ap (λ l. l ++ drop i a) (sym (take-take i j a low) ∙ ap (take i) same ∙ take-take i j all low)
 
@@ -51,7 +51,7 @@ module _ (op : ℕ → ℕ → ℕ) (a b : List ℕ) where
   all_made ws i e past part =
       part ∙ (λ m. take_all i all (omega (arith, past, length-zip2 op a b e)) m ++ drop_all i a past m) ∙ append-nil all
 
-  -- the combined words after n more of them are replaced
+  -- the list after n more of its words are replaced
   pub lanes_made : (ws : List ℕ) (i n j : ℕ) → length a ≡ length b → j ≡ i + n → j ≤ length a → PartMade i ws → PartMade j (put_chunk i ws (zip2 op (chunk i n ws) (chunk i n b)))
   lanes_made ws i n j e next within part =
       let long = length-take-le i all (omega (arith, next, within, length-zip2 op a b e)) in
@@ -63,7 +63,7 @@ module _ (op : ℕ → ℕ → ℕ) (a b : List ℕ) where
       ∙ (λ m. made m ++ (chunk i n all ++ drop (four m) (kept m))) ∙ sym (append_assoc (take i all) (chunk i n all) (drop n (drop i a)))
       ∙ (λ m. sym (take-add i n all) m ++ drop-drop n i a m) ∙ ap (λ k. take k all ++ drop k a) (sym next)
 
-  -- the combined words after a block of them is replaced
+  -- the list after a block of n more of its words is replaced
   pub block_made : (ws : List ℕ) (i n m j : ℕ) → length a ≡ length b → m ≡ n → j ≡ i + n → j ≤ length a → PartMade i ws → PartMade j (take i ws ++ (zip2 op (chunk i n ws) (chunk i m b) ++ drop n (drop i ws)))
   block_made ws i n m j e same next within part =
       let long : length ws ≡ length a = omega (arith, ap length part, length-append (take i all) (drop i a), length-drop i a, length-take-le i all (omega (arith, next, within, length-zip2 op a b e))) in
@@ -73,7 +73,7 @@ module _ (op : ℕ → ℕ → ℕ) (a b : List ℕ) where
       (λ k. take i ws ++ (zip2 op (chunk i n ws) (chunk i (same k) b) ++ drop (sym size k) (drop i ws)))
       ∙ sym (put_chunk_is i ws made (omega (arith, size, fits))) ∙ lanes_made ws i n j e next within part
 
-  -- the combined words after one more of them is replaced
+  -- the list after one more of its words is replaced
   pub one_made : (ws : List ℕ) (i : ℕ) → length a ≡ length b → i < length a → PartMade i ws → PartMade (i + 1) (set ws i (op (slice_index ws i) (slice_index b i)))
   one_made ws i e low part =
       let long : length ws ≡ length a = omega (arith, ap length part, length-append (take i all) (drop i a), length-drop i a, length-take-le i all (omega (arith, low, length-zip2 op a b e))) in
@@ -83,7 +83,7 @@ module _ (op : ℕ → ℕ → ℕ) (a b : List ℕ) where
       set_split ws i x (omega (arith, low, long)) ∙ (λ m. take i ws ++ (x ∷ sym (drop-drop 1 i ws ∙ ap (λ k. drop k ws) (add-one i)) m))
       ∙ sym (put_chunk_is i ws (x ∷ []) (omega (arith, low, long))) ∙ (λ m. put_chunk i ws (zip2 op (sym first m) (sym second m))) ∙ lanes_made ws i 1 (i + 1) e refl (omega (arith, low)) part
 
--- an operation on each word, as one on two words that leaves the second aside
+-- an operation on each word, as an operation on two words that ignores the second
 pub map_zipped : (f : ℕ → ℕ) (a b : List ℕ) → length a ≡ length b → map f a ≡ zip2 (λ x _. f x) a b
 map_zipped f [] [] e = refl
 map_zipped f (x ∷ a) (y ∷ b) e = ap (λ l. f x ∷ l) (map_zipped f a b (omega (arith, e)))
@@ -129,7 +129,7 @@ fold_none : (x : ℕ) (ws : List ℕ) → (fold_l bit_or x ws == 0) ≡ ((x == 0
 fold_none x [] = sym (and-true (x == 0))
 fold_none x (w ∷ ws) = fold_none (bit_or x w) ws ∙ ap (λ t. t && none_in ws) (or_none x w) ∙ and_assoc (x == 0) (w == 0) (none_in ws)
 
--- lanes that are all 0 exactly if the first i words are
+-- the lanes combined by `|` are 0 exactly if the first i words are, if all lanes are 0 exactly if these words are
 pub lanes_ended : (ws lanes : List ℕ) (i j : ℕ) → none_in lanes ≡ none_in (take i ws) → i ≡ j → (fold_l bit_or 0 lanes == 0) ≡ none_in (take j ws)
 lanes_ended ws lanes i j before same = fold_none 0 lanes ∙ before ∙ ap (λ k. none_in (take k ws)) same
 
@@ -142,7 +142,7 @@ zip_none a b e = absurd (omega (arith, e))
 pub more_none : (ws : List ℕ) (i n j : ℕ) → j ≡ i + n → none_in (take j ws) ≡ (none_in (take i ws) && none_in (chunk i n ws))
 more_none ws i n j next = ap (λ k. none_in (take k ws)) next ∙ ap none_in (take-add i n ws) ∙ list_all-append (λ w. w == 0) (take i ws) (chunk i n ws)
 
--- the test of the first i words and of four more, which are joined to lanes
+-- the test of the first i words and of four more, which are combined with the lanes by `|`
 pub joined_none : (ws lanes more : List ℕ) (i j : ℕ) → more ≡ chunk i 4 ws → j ≡ i + 4 → j ≤ length ws → length lanes ≡ 4 → none_in lanes ≡ none_in (take i ws)
     → none_in (zip2 bit_or lanes more) ≡ none_in (take j ws)
 joined_none ws lanes more i j is next long four before =
@@ -199,17 +199,17 @@ module _ (op : ℕ → ℕ → ℕ) (a b : List ℕ) (i n any : ℕ) (here : (an
   pub next_block : (j : ℕ) → j ≡ i + n → none_in (take i (zip2 op a b)) ≡ true → any ≡ 0 → none_in (take j (zip2 op a b)) ≡ true
   next_block j next before none = ap (λ k. none_in (take k (zip2 op a b))) next ∙ with_block ∙ grind (arith, nat_tests, before)
 
-  -- where a result of the block is not 0
+  -- if a result of the block is not 0, not all results are 0
   pub some_block : any ≢ 0 → false ≡ none_in (zip2 op a b)
   some_block some = let part = with_block in let whole = ap none_in (sym (take-append-drop (i + n) (zip2 op a b))) ∙ list_all-append (λ w. w == 0) (take (i + n) (zip2 op a b)) (drop (i + n) (zip2 op a b)) in grind (arith, nat_tests)
 
-  -- the test of all results, at the last block
+  -- if the results before the last block are 0, this block decides whether all results are 0
   last_block : i + n ≡ length a → length a ≡ length b → none_in (take i (zip2 op a b)) ≡ true → (any == 0) ≡ none_in (zip2 op a b)
   last_block all long before =
       let whole : take (i + n) (zip2 op a b) ≡ zip2 op a b = take_all (i + n) (zip2 op a b) (omega (arith, all, length-zip2 op a b long)) in
       sym (ap none_in (sym whole) ∙ with_block ∙ ap (λ t. t && (any == 0)) before)
 
--- the tests of the results before the last words, which follow k blocks of sixteen, and of all results
+-- if the results for k blocks of sixteen words are 0, the words after them decide whether all results are 0
 pub last_words : (op : ℕ → ℕ → ℕ) (a b : List ℕ) (i k any : ℕ) → length a ≡ length b → i ≡ 16 * k → i ≤ length a → (any == 0) ≡ none_in (zip2 op (chunk i (length a - i) a) (chunk i (length b - i) b))
     → none_in (take (16 * k) (zip2 op a b)) ≡ true → (none_in (take i (zip2 op a b)) ≡ true) × ((any == 0) ≡ none_in (zip2 op a b))
 last_words op a b i k any e is within here before =

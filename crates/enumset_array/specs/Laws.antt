@@ -3,7 +3,7 @@
 --     ArrayWords      the laws of the words of an `ArrayRepr`
 --     Values      a list of words as one number
 --     Operations      the operations on words that do to their bits what operations on sets do
---     Order      words compare as their sets
+--     Order      lists of words compare as their sets do
 pub mod Asks
 pub mod ArrayWords
 pub mod Operations

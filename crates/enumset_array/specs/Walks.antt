@@ -5,7 +5,8 @@
 --         leave
 --     items_among      the answers that are not None
 --     IsWalk      steps from the ends in a list over some words: what they yield, the items that they leave, and that
---         they make at most one ask for each answer that is not None, and so for each step, and one for each word
+--         they make at most one ask for each word and one for each answer that is not None, and so at most one for each
+--         word and one for each step
 use Rattle.std.specs.Prelude.{◌≡◌, ℕ, ◌+◌, ◌≤◌, List, [], ◌∷◌, length, Option, filter_map}
 use Rattle.enumset_repr.specs.Ends.{first, last, without_first, without_last}
 use Rattle.enumset_array.specs.declared.traversal.End.{End}
@@ -30,8 +31,8 @@ without_answers xs (e ∷ es) = without_answers (without_answer e xs) es
 unfoldable pub items_among : List (Option ℕ) → List ℕ
 items_among rs = filter_map (λ r. r) rs
 
--- the steps find these items in some words, after so many asks; their answers are rs, and they leave the items in left,
--- after new_asks asks
+-- the steps begin with the given items and number of asks, over so many words; their answers are rs, and they end with
+-- the items in left and with new_asks asks
 pub record IsWalk (items : List ℕ) (asks words : ℕ) (ends : List End) (rs : List (Option ℕ)) (left : List ℕ) (new_asks : ℕ) : Type 0 where
   pub yields : rs ≡ answers items ends
   pub leaves : left ≡ without_answers items ends

@@ -16,8 +16,8 @@ use std::marker::Model;
 
 /// An iterator over the members of an `ArrayRepr`, each once, ascending, from both ends.
 ///
-/// It mirrors `ArrayIter` of Rust's `enumset`. Contracts see the items left, the count of asks, and the span, which is
-/// the number of words between the cursors.
+/// The struct mirrors `ArrayIter` of Rust's `enumset`. Contracts see the items left, the count of asks, and the span,
+/// which is the number of words between the cursors.
 #[derive(Drop, Debug)]
 pub struct ArrayIter<const N: usize> {
     row: Words<N>,
@@ -37,7 +37,8 @@ impl<const N: usize> Model for ArrayIter<N> {
 }
 
 impl<const N: usize> ArrayIter<N> {
-    /// An iterator over the members of an `ArrayRepr`. It has made no ask, and its span is the number of words in use.
+    /// Returns an iterator over the members of an `ArrayRepr`. It has made no ask, and its span is the number of words
+    /// in use.
     pub(crate) fn over(repr: ArrayRepr<N>) -> Self
         ensures items { result.items ≡ ascending (set_of N repr.entry) }
         ensures asks { result.asks ≡ 0 }
@@ -48,7 +49,7 @@ impl<const N: usize> ArrayIter<N> {
         ArrayIter { row, cursors }
     }
 
-    /// An iterator with the same items, count of asks and cursors.
+    /// Returns an iterator with the same items, count of asks and cursors.
     pub(crate) fn same(&self) -> Self
         ensures { result ≡ self.now }
     {
@@ -100,7 +101,7 @@ impl<const N: usize> ExactSizeIterator for ArrayIter<N> {
     }
 }
 
-/// An iterator with the same items left, always `Ok`.
+/// `clone` returns an iterator with the same items left, count of asks and cursors, and never fails.
 impl<const N: usize> Clone for ArrayIter<N> {
     ghost is_clone = { λ it copy. copy ≡ it };
 

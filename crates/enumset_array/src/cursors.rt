@@ -39,7 +39,8 @@ impl Cursors {
     }
 }
 
-/// Takes out the least bit of the row and returns it, or returns `None` if all words are 0.
+/// Takes out the least bit of the row and returns its number, 64 times the place of its word plus its number in the
+/// word, or returns `None` if all words are 0.
 ///
 /// The back cursor must be at most the number of words, and each word that is not between the cursors must be 0. The
 /// step asks the words from the front cursor on, and an ask that finds no bit advances that cursor. So the sum of asks
@@ -68,7 +69,8 @@ pub fn step_front<R: Row>(row: &mut R, cursors: &mut Cursors) -> Option<u32>
     None
 }
 
-/// Takes out the greatest bit of the row and returns it, or returns `None` if all words are 0.
+/// Takes out the greatest bit of the row and returns its number, 64 times the place of its word plus its number in the
+/// word, or returns `None` if all words are 0.
 ///
 /// The back cursor must be at most the number of words, and each word that is not between the cursors must be 0. The
 /// step asks the words down from the back cursor, and an ask that finds no bit moves that cursor down. So the sum of

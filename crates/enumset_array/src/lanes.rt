@@ -1,4 +1,4 @@
-//! Operations on lists of words, four words at a time.
+//! Operations on lists of words, in groups of four words; the words left over follow one by one.
 
 ghost use Rattle.std.specs.Prelude.{◌≡◌, ◌<◌, ◌≤◌, ◌==◌, IfSome, drop, is_none, length, map, nat_eq, not, sum_by, take, true};
 ghost use Rattle.std.specs.Cmp.Lexicographic.{pointwise};
@@ -12,7 +12,8 @@ use crate::array_repr::WORD_LIMIT;
 use crate::set_operation::{Change, SetOperation, Xor};
 use std::simd::prelude::*;
 
-/// Replaces each word by the result for it and the other word in its place. The lists must have the same length.
+/// Replaces each word by the result of the operation for this word and the one of `others` in the same place. The lists
+/// must have the same length.
 pub(crate) fn apply<O: SetOperation>(words: &mut [u64], others: &[u64])
     requires { length words.old ≡ length others.now }
     ensures { words.new ≡ zip2 O.of_words words.old others.now }
@@ -20,10 +21,11 @@ pub(crate) fn apply<O: SetOperation>(words: &mut [u64], others: &[u64])
     apply_from::<O>(words, others, 0);
 }
 
-/// Replaces each word from a place on by the result for it and the other word in its place. The words before must be the
-/// results for them. The lists must have the same length.
+/// Does what [`apply`] does, if the operation leaves each word before `place` as it is. The lists must have the same
+/// length.
 ///
-/// A turn of the loop is over sixteen words. Over 1024 words that takes 8% fewer instructions than four a turn.
+/// An iteration of the loop goes over sixteen words. Over 1024 words this takes 8% fewer instructions than four words
+/// in an iteration.
 #[inline]
 fn apply_from<O: SetOperation>(words: &mut [u64], others: &[u64], place: usize)
     requires length { length words.old ≡ length others.now }
@@ -39,8 +41,7 @@ fn apply_from<O: SetOperation>(words: &mut [u64], others: &[u64], place: usize)
     apply_by_four::<O>(&mut words[i..], &others[i..]);
 }
 
-/// Replaces each word by the result for it and the other word in its place, four words at a time. The lists must have the
-/// same length.
+/// Does what [`apply`] does, with four words in an iteration. The lists must have the same length.
 #[inline]
 fn apply_by_four<O: SetOperation>(words: &mut [u64], others: &[u64])
     requires { length words.old ≡ length others.now }
@@ -59,12 +60,12 @@ fn apply_by_four<O: SetOperation>(words: &mut [u64], others: &[u64])
     }
 }
 
-/// Replaces each word by the result for it and the other word in its place, and returns whether a word changed. The
-/// lists must have the same length.
+/// Does what [`apply`] does, and returns whether a word changed. The lists must have the same length.
 ///
-/// From sixteen words on, the words are only read up to the first sixteen of which one changes, and written from there
-/// on. So nothing is written if no word changes, and only those sixteen are read twice. For fewer words one loop is
-/// faster. Inlined, the loops are compiled for N words: over 24 words that takes a third fewer instructions.
+/// From sixteen words on, the words are read in blocks of sixteen, and those left over as one more block, up to the
+/// first block in which a word changes. From this block on they are written. So nothing is written if no word changes,
+/// and only the first word and this block are read twice. Below sixteen words, one loop that writes and compares is
+/// faster. Inlined, the loops are compiled for N words: over 24 words this takes a third fewer instructions.
 #[inline(always)]
 pub(crate) fn apply_changes<O: SetOperation>(words: &mut [u64], others: &[u64]) -> bool
     requires { length words.old ≡ length others.now }
@@ -76,15 +77,15 @@ pub(crate) fn apply_changes<O: SetOperation>(words: &mut [u64], others: &[u64]) 
     }
     match first_result::<Change<O>>(words, others) {
         None => return false,
-        // From the start, the loop is compiled for N words, too.
+        // The loop of `apply` begins at place 0, so it is compiled for N words, too.
         Some(0) => apply::<O>(words, others),
         Some(place) => apply_from::<O>(words, others, place),
     }
     true
 }
 
-/// Replaces each word by the result for it and the other word in its place, and returns whether a word changed. The
-/// lists must have the same length. Each word is read once.
+/// Does what [`apply`] does, and returns whether a word changed. The lists must have the same length. Each word is read
+/// once.
 fn apply_and_compare<O: SetOperation>(words: &mut [u64], others: &[u64]) -> bool
     requires { length words.old ≡ length others.now }
     ensures words { words.new ≡ zip2 O.of_words words.old others.now }
@@ -122,7 +123,8 @@ pub(crate) fn invert(words: &mut [u64])
     }
 }
 
-/// Whether the operation yields 0 for every pair of words. The lists must have the same length.
+/// Returns whether the operation yields 0 for every pair of words in the same place. The lists must have the same
+/// length.
 pub(crate) fn yields_none<O: SetOperation>(words: &[u64], others: &[u64]) -> bool
     requires { length words.now ≡ length others.now }
     ensures { result ≡ list_all (λ w. w == 0) (zip2 O.of_words words.now others.now) }
@@ -133,8 +135,9 @@ pub(crate) fn yields_none<O: SetOperation>(words: &[u64], others: &[u64]) -> boo
 /// Returns a place below which the operation yields 0 for every pair of words, or `None` if it yields 0 for all pairs.
 /// The lists must have the same length.
 ///
-/// From sixteen words on it stops early: at the first pair if its result is not 0, else at the first sixteen pairs with
-/// such a result, where the place is that of the first of them. For fewer words there is one test, at the end.
+/// From sixteen words on, the search stops early: at the first pair if its result is not 0, else at the first block of
+/// sixteen pairs with such a result, whose first place is returned. Below sixteen words there is one test, of all
+/// pairs.
 #[inline(always)]
 fn first_result<O: SetOperation>(words: &[u64], others: &[u64]) -> Option<usize>
     requires { length words.now ≡ length others.now }
@@ -158,11 +161,11 @@ fn first_result<O: SetOperation>(words: &[u64], others: &[u64]) -> Option<usize>
     Some(i)
 }
 
-/// Returns a place such that the lists are equal from there to their ends. They must have the same length.
+/// Returns a place such that the lists are equal from there to their ends. The lists must have the same length.
 ///
-/// The words are compared from the top, sixteen at a time, until sixteen differ: the place is the end of those sixteen.
-/// If all of them are equal, the place is the number of words left below them. If there are at least sixteen words, the
-/// last one is compared first, by itself: if it differs, the place is the end of the lists.
+/// The words are compared from the top, in blocks of sixteen, until a block differs: the place is the end of this
+/// block. If no block differs, the place is the number of words left below the blocks. If there are at least sixteen
+/// words, the last one is compared first, by itself: if it differs, the place is the end of the lists.
 pub(crate) fn equal_from(words: &[u64], others: &[u64]) -> usize
     requires { length words.now ≡ length others.now }
     ensures within { result ≤ length words.now }
@@ -181,7 +184,8 @@ pub(crate) fn equal_from(words: &[u64], others: &[u64]) -> usize
     len % 16
 }
 
-/// The results for all pairs of words, combined by `|`: it is 0 exactly if each result is 0.
+/// Returns the results for all pairs of words, combined by `|`: a number that is 0 exactly if each result is 0. The
+/// lists must have the same length.
 fn any_of<O: SetOperation>(words: &[u64], others: &[u64]) -> u64
     requires { length words.now ≡ length others.now }
     ensures { (result == 0) ≡ list_all (λ w. w == 0) (zip2 O.of_words words.now others.now) }

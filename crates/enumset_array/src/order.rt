@@ -1,4 +1,5 @@
-//! The order of the representation of many words, which is the order of the sets.
+//! The order of the representation of many words, which is the order of the sets. Rust's `enumset` compares the lowest
+//! words first.
 
 ghost use Rattle.std.specs.Prelude.{◌≡◌, Some, length, refl};
 ghost use Rattle.enumset_repr.specs.Order.{compare};
@@ -39,7 +40,7 @@ impl<const N: usize> Ord for ArrayRepr<N> {
     }
 }
 
-/// How two lists of the same length compare: the highest place where they differ decides.
+/// Returns how two lists of the same length compare: the highest place where they differ decides.
 fn compare_words(words: &[u64], others: &[u64]) -> Ordering
     requires { length words.now ≡ length others.now }
     ensures { result ≡ highest_first words.now others.now }

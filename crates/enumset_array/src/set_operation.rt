@@ -45,7 +45,7 @@ pub(crate) struct Xor;
 /// `a & !b`.
 pub(crate) struct AndNot;
 
-/// The bits of `a` that another operation changes.
+/// The bits of `a` that the operation `O` changes: `a ^` its result.
 pub(crate) struct Change<O>(O);
 
 impl SetOperation for And {
@@ -129,7 +129,7 @@ impl<O: SetOperation> SetOperation for Change<O> {
     ghost on_bits = { on_change O.of_words O.of_sets O.on_bits };
 }
 
-/// Replaces a value by the result for it and another.
+/// Replaces a value by the result of the operation for this value and `other`.
 pub(crate) fn apply<O: SetOperation, const N: usize>(repr: &mut ArrayRepr<N>, other: &ArrayRepr<N>)
     ensures value { IsArrayRepr N repr.new }
     ensures set { set_of N repr.new ≡ O.of_sets (set_of N repr.old) (set_of N other.now) }
@@ -137,7 +137,7 @@ pub(crate) fn apply<O: SetOperation, const N: usize>(repr: &mut ArrayRepr<N>, ot
     lanes::apply::<O>(&mut repr.0, other.words());
 }
 
-/// Replaces a value by the result for it and another, and returns whether its set changed.
+/// Replaces a value by the result of the operation for this value and `other`, and returns whether its set changed.
 pub(crate) fn apply_changes<O: SetOperation, const N: usize>(
     repr: &mut ArrayRepr<N>,
     other: &ArrayRepr<N>,
@@ -150,7 +150,7 @@ pub(crate) fn apply_changes<O: SetOperation, const N: usize>(
     lanes::apply_changes::<O>(&mut repr.0, other.words())
 }
 
-/// Whether the result for two values is the empty set.
+/// Returns whether the result of the operation for two values is the empty set.
 pub(crate) fn yields_none<O: SetOperation, const N: usize>(
     repr: &ArrayRepr<N>,
     other: &ArrayRepr<N>,

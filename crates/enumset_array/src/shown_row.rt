@@ -10,8 +10,8 @@ use std::marker::Model;
 
 /// The words in use of an `ArrayRepr`, with a count of asks that can be read at run time.
 ///
-/// It is for tests, and Rust's `enumset` has nothing like it. The number that it shows stops at `u64::MAX`; the count
-/// that contracts see has no limit.
+/// The struct is for tests, and Rust's `enumset` has nothing like it. The number that it shows stops at `u64::MAX`; the
+/// count that contracts see has no limit.
 #[derive(Drop, Debug)]
 pub struct ShownRow<const N: usize> {
     row: Words<N>,
@@ -30,7 +30,7 @@ impl<const N: usize> Model for ShownRow<N> {
 }
 
 impl<const N: usize> ShownRow<N> {
-    /// Returns the words in use of an `ArrayRepr`, not yet asked.
+    /// Returns the words in use of an `ArrayRepr`, with a count of 0 asks.
     pub fn new(repr: ArrayRepr<N>) -> Self
         ensures { result ≡ record { words = words_in_use N repr.entry; asks = 0 } }
     {
@@ -68,7 +68,7 @@ impl<const N: usize> Row for ShownRow<N> {
     }
 }
 
-/// The number to show after one more ask.
+/// Returns the number to show after one more ask.
 fn one_more(shown: u64) -> u64
     ensures { result ≡ min (shown + 1) (2 ^ 64 - 1) }
 {

@@ -12,7 +12,7 @@ use crate::cursors::{Cursors, step_back, step_front};
 use crate::row::Row;
 use std::alloc::{AllocError, Global};
 
-/// An end of a list. It has no counterpart in Rust's `enumset`.
+/// An end of a list of items that ascend. Rust's `enumset` has no such type.
 #[derive(Clone, Copy, Debug, PartialEq, Eq)]
 pub enum End {
     /// The end with the least item.
@@ -21,7 +21,7 @@ pub enum End {
     Back,
 }
 
-/// One step from an end.
+/// Takes one step from an end, and returns what [`step_front`] or [`step_back`] returns.
 fn step<R: Row>(row: &mut R, cursors: &mut Cursors, end: End) -> Option<u32>
     requires { Covers (R.words row.old) cursors.old }
     ensures item { result ≡ answer end (items_of (R.words row.old)) }

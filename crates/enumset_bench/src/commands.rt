@@ -5,10 +5,10 @@ use crate::random::Random;
 use enumset_machine::worked_types::{serve_worked, worked};
 use std::alloc::{AllocError, Global};
 
-/// How many bytes a random input has at most, without a last line with a fault.
+/// How many bytes a random input has at most, not counting a bad last line.
 const LENGTH: usize = 200000;
 
-/// How many lines the lines of an input are taken from.
+/// How many lines are made, from which each input takes its own.
 const LINES: u32 = 2000;
 
 /// The types that inputs are over.
@@ -54,7 +54,7 @@ fn serve(alloc: Global, name: &str, input: &String, digest: &mut Digest) -> Resu
     Ok(())
 }
 
-/// An input of lines in any order, one in sixteen with a bad last line.
+/// An input of random ones of these lines. One input in sixteen ends with a bad line.
 fn random_input(
     alloc: Global,
     random: &mut Random,
@@ -76,7 +76,7 @@ fn random_input(
     Ok(input)
 }
 
-/// Lines of all commands that every type has.
+/// Random lines, of all commands that every type has.
 fn random_lines(alloc: Global, random: &mut Random) -> Result<Vec<String>, AllocError> {
     let mut lines = Vec::new(alloc);
     for _ in 0..LINES {
@@ -87,7 +87,7 @@ fn random_lines(alloc: Global, random: &mut Random) -> Result<Vec<String>, Alloc
     Ok(lines)
 }
 
-/// Writes a line.
+/// Writes a random line.
 fn push_line(line: &mut String, random: &mut Random) -> Result<(), AllocError> {
     let a = random.below(4);
     let b = random.below(4);

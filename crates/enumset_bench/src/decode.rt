@@ -35,7 +35,8 @@ pub fn digest(alloc: Global, seed: u32, rounds: u32) -> Result<u64, AllocError> 
     Ok(digest.value())
 }
 
-/// The set of a number of 32 bits. A third of the numbers have unknown bits, and are kept in a mixed set.
+/// The set of the valid bits of a number of 32 bits, with calls of its mixed set. A third of the numbers have unknown
+/// bits.
 fn right_set(random: &mut Random, digest: &mut Digest) -> EnumSet<Right> {
     let kept = if random.is_one_in(2) {
         0xFF_FFFF
@@ -57,7 +58,7 @@ fn right_set(random: &mut Random, digest: &mut Digest) -> EnumSet<Right> {
     }
 }
 
-/// The set of a number of 128 bits. A quarter of the numbers have unknown bits.
+/// The set of the valid bits of a number of 128 bits. A quarter of the numbers have unknown bits.
 fn setting_set(random: &mut Random, digest: &mut Digest) -> EnumSet<Setting> {
     let low = random.number();
     let high = random.number() & if low & 3 == 0 { u64::MAX } else { 0xFFFF_FFFF };
@@ -76,7 +77,7 @@ fn setting_set(random: &mut Random, digest: &mut Digest) -> EnumSet<Setting> {
     }
 }
 
-/// A row of six words. The last two are 0. Half of the rows have unknown bits, and equal rows are frequent.
+/// A row of six words. The last two are 0. About half of the rows have unknown bits, and equal rows are frequent.
 fn random_row(random: &mut Random, valid: [u64; 4]) -> [u64; 6] {
     let number = random.number();
     let [first, second, third, fourth] = if number >> 63 == 0 {
@@ -94,7 +95,7 @@ fn random_row(random: &mut Random, valid: [u64; 4]) -> [u64; 6] {
     ]
 }
 
-/// The set of a row of words.
+/// The set of the valid bits of a row's first words: four, five or six of them.
 fn symbol_set(
     alloc: Global,
     random: &mut Random,

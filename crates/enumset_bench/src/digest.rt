@@ -7,6 +7,7 @@ pub struct Digest {
 }
 
 impl Digest {
+    /// The digest of nothing.
     pub fn new() -> Digest {
         Digest { value: 0 }
     }
@@ -16,7 +17,7 @@ impl Digest {
         self.value = (self.value.rotate_left(5) ^ number).wrapping_mul(0x9E37_79B9_7F4A_7C15);
     }
 
-    /// Mixes in bytes, eight at a time, and how many there are.
+    /// Mixes in bytes, eight at a time and the last few one by one, and then how many there are.
     pub fn add_bytes(&mut self, bytes: &[u8]) {
         let (chunks, rest) = bytes.as_chunks::<8>();
         for chunk in chunks {

@@ -1,10 +1,10 @@
-//! The element type of facts that lie far apart. It is as `enumset_derive` writes it, except for the 1012 words without
-//! a bit, for which the program takes a line each.
+//! The element type of facts that lie far apart. It is as `enumset_derive` writes it, except that words share lines:
+//! 1012 of the 1024 have no bit, and that program writes a line for each.
 
 use enumset::EnumSetType;
 use enumset::internal::ArrayRepr;
 
-/// Words of one bit, whose numbers are long.
+/// The words with bit 57 or bit 63 alone, whose numbers are long.
 const BIT_57: u64 = 1 << 57;
 
 const BIT_63: u64 = 1 << 63;

@@ -13,7 +13,7 @@ const NODES: usize = 600;
 /// How many nodes a graph has whose facts are 1024 words.
 const FAR_NODES: usize = 24;
 
-/// More passes than a graph needs.
+/// More passes than a graph needs. The loops over passes have this bound, since the checker proves that each loop ends.
 pub(crate) const PASSES: usize = 1000;
 
 /// A node: the facts that it makes and ends, the facts known at it, and the nodes from which facts come.
@@ -102,6 +102,7 @@ impl Flow for NewSets {
             return;
         }
         let mut members = set.iter();
+        // An iteration takes two members, so half of these are enough. The bound shows that the loop ends.
         for _ in 0..set.len() {
             if let Some(first) = members.next() {
                 digest.add(u64::from(first.enum_into_u32()));
@@ -165,7 +166,7 @@ fn random_far_nodes(
     Ok(nodes)
 }
 
-/// The node seven places on, so that facts go far, and two others.
+/// The sources of a node: the node seven places on, so that facts go far, and two random ones.
 fn random_sources(random: &mut Random, at: usize, count: usize) -> [usize; 3] {
     let nodes = count.max(1);
     [
@@ -175,7 +176,7 @@ fn random_sources(random: &mut Random, at: usize, count: usize) -> [usize; 3] {
     ]
 }
 
-/// Few bits.
+/// A number with few bits: one in thirty-two of them is set.
 fn few(random: &mut Random) -> u64 {
     random.number() & random.number() & random.number() & random.number() & random.number()
 }

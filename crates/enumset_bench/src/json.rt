@@ -53,7 +53,8 @@ pub fn digest(alloc: Global, seed: u32, rounds: u32) -> Result<u64, AllocError> 
     Ok(digest.value())
 }
 
-/// A list of up to twenty names of rights, in any order, some of them twice, one of 300 unknown.
+/// Reads a list of up to twenty names of rights, and writes its set again. The names are in any order, and some come
+/// twice; one in 300 is unknown.
 fn add_list(alloc: Global, random: &mut Random, digest: &mut Digest) -> Result<(), AllocError> {
     let mut text = String::new(alloc);
     push_rights(&mut text, random)?;
@@ -63,7 +64,7 @@ fn add_list(alloc: Global, random: &mut Random, digest: &mut Digest) -> Result<(
     }
 }
 
-/// A map of up to twelve settings, half of them false.
+/// Reads a map of up to twelve settings, half of them false, and writes its set again.
 fn add_map(alloc: Global, random: &mut Random, digest: &mut Digest) -> Result<(), AllocError> {
     let mut text = String::from_str(alloc, "{")?;
     let names = Setting::names();
@@ -90,7 +91,7 @@ fn add_map(alloc: Global, random: &mut Random, digest: &mut Digest) -> Result<()
     }
 }
 
-/// A number of rights, one in eight with unknown bits.
+/// Reads a number of rights, and writes its set again. One number in eight is shifted, mostly to unknown bits.
 fn add_number(alloc: Global, random: &mut Random, digest: &mut Digest) -> Result<(), AllocError> {
     let number = random.number() & 0xF_FFFF;
     let number = if random.is_one_in(8) {
@@ -105,7 +106,7 @@ fn add_number(alloc: Global, random: &mut Random, digest: &mut Digest) -> Result
     }
 }
 
-/// A row of up to five words of symbols.
+/// Reads a row of up to five words of symbols, and writes its set again.
 fn add_words(
     alloc: Global,
     random: &mut Random,
@@ -125,7 +126,7 @@ fn add_words(
     }
 }
 
-/// A document with the rights of many users, each a list in it.
+/// Reads a document that has a list of rights for each of many users, and writes each set as a value again.
 fn add_document(alloc: Global, random: &mut Random, digest: &mut Digest) -> Result<(), AllocError> {
     let mut text = String::from_str(alloc, "{")?;
     for place in 0..USERS {
@@ -152,7 +153,8 @@ fn add_document(alloc: Global, random: &mut Random, digest: &mut Digest) -> Resu
     Ok(())
 }
 
-/// Nearly all names of settings, the last one first, and at the end one that no setting has, or a number.
+/// Reads a list of nearly all names of settings, the last setting first. Its last item is a name that no setting has,
+/// or a number.
 fn add_all_names(
     alloc: Global,
     random: &mut Random,
@@ -178,7 +180,7 @@ fn add_all_names(
     }
 }
 
-/// Texts that are cut off, or of another form.
+/// Reads texts that are cut off, or of another form, and mixes in their faults.
 fn add_faults(alloc: Global, random: &mut Random, digest: &mut Digest) -> Result<(), AllocError> {
     let mut text = String::new(alloc);
     push_rights(&mut text, random)?;

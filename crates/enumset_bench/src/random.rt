@@ -9,13 +9,14 @@ pub struct Random {
 }
 
 impl Random {
+    /// The stream of a seed.
     pub fn new(seed: u32) -> Random {
         Random {
             state: u64::from(seed),
         }
     }
 
-    /// Any number.
+    /// The next number of 64 bits.
     pub fn number(&mut self) -> u64 {
         self.state = self
             .state
@@ -25,7 +26,7 @@ impl Random {
         mixed ^ mixed >> 32
     }
 
-    /// Any number of 32 bits.
+    /// The next number of 32 bits.
     pub fn number_of_32_bits(&mut self) -> u32 {
         (self.number() >> 32) as u32
     }

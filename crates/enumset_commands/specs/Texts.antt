@@ -5,8 +5,7 @@
 --     text      the texts of replies, each followed by one line feed
 --     fault_text      the text of a fault
 --     IsFaultOf      the fault may be reported instead of this answer
---     IsReadAs      whether a reader may return this for a text that writes that: what is written, `None` if nothing is,
---         or an error
+--     IsReadAs      what a reader may return: what the text writes, `None` if it writes nothing, or an error
 use Rattle.std.specs.Prelude.{◌≡◌, ℕ, true, false, List, ◌++◌, codes, Option, Some, None, Result, Ok, Err}
 use Rattle.std.specs.List.{flat_map}
 use Rattle.std.specs.Option.{IsSome}
@@ -50,7 +49,7 @@ fault_text TooLong = codes "input too long"
 fault_text (BadLine n) = codes "line " ++ decimal n ++ codes ": not a command"
 fault_text OutOfMemory = codes "out of memory"
 
--- an answer fails only if memory runs out; an input without an answer fails only by its own fault
+-- where there is an answer, the only fault is that memory ran out; an input that has a fault is refused for this one
 abbrev pub IsFaultOf : {A : Type 0} → Result A TextFault → TextFault → Type 0
 IsFaultOf (Ok value) fault = fault ≡ OutOfMemory
 IsFaultOf (Err own) fault = fault ≡ own

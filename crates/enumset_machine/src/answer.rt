@@ -10,7 +10,7 @@ use enumset_commands::{Refusal, Reply, WordList};
 use std::alloc::{AllocError, Global};
 use std::cmp::Ordering;
 
-/// The answer to one command: its [`Reply`], where words are a set that has them, and how many they are. So an answer
+/// The answer to one command: its [`Reply`], except that words are given by their set and their count. So an answer
 /// takes no memory.
 #[derive(Clone, Copy, Debug)]
 pub enum Answer<S> {
@@ -22,11 +22,11 @@ pub enum Answer<S> {
     Count(u64),
     /// The number of a set: the sum of the powers of two of its members.
     Number(u128),
-    /// The first `count` words of a set, the lowest first: those of the reply.
+    /// The first `count` words of a set, the lowest first.
     Words {
-        /// A set whose first words they are.
+        /// The set.
         set: S,
-        /// How many words.
+        /// How many of its words are meant.
         count: u8,
     },
     /// How one set compares with another.

@@ -147,7 +147,7 @@ pub(crate) fn carry_out_common<S: RunSet>(
     }
 }
 
-/// This refusal, unless the condition holds.
+/// The refusal, unless the condition holds.
 pub(crate) fn unless(holds: bool, refusal: Refusal) -> Option<Refusal>
     ensures { result ≡ (if holds then None else Some refusal) }
 {
@@ -161,7 +161,7 @@ fn is_width(width: u32) -> bool
     matches!(width, 8 | 16 | 32 | 64 | 128)
 }
 
-/// Whether this is such a width, and the value is below 2 to the power of the width.
+/// Whether the width passes [`is_width`], and the value is below 2 to the power of it.
 fn fits(width: u32, value: u128) -> bool
     ensures { result ≡ (is_width width && nat_lt value (2 ^ width)) }
 {

@@ -1,6 +1,7 @@
 //! Laws of runs, as functions: calling one gives the proof its law.
 //!
-//! `same_replies` and `same_mixed_replies` make the runs that they are about; the others do nothing at run time.
+//! `same_replies` and `same_mixed_replies` make the runs that they are about; the others do nothing at run time. These
+//! two are twins: they change together.
 
 ghost use Rattle.std.specs.Prelude.{◌≡◌, ◌++◌, ℕ, map, length, min, IsTrue, List};
 ghost use Rattle.std.specs.List.{list_all};

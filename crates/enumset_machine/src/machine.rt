@@ -55,6 +55,7 @@ pub type Machine<T> = MachineOver<EnumSet<T>>;
 /// A machine of mixed sets.
 pub type MixedMachine<T> = MachineOver<MixedEnumSet<T>>;
 
+// The methods over mixed sets, in the next `impl`, are twins of these: the two change together.
 impl<T: EnumSetType> MachineOver<EnumSet<T>> {
     /// Carries out one command, and returns its answer. A refused command changes nothing.
     #[tactic(auto, unfolding(crate::specs::Runs::outcome))]
@@ -82,6 +83,7 @@ impl<T: EnumSetType> MachineOver<EnumSet<T>> {
     }
 }
 
+// The twins of the methods over sets, in the `impl` before: the two change together.
 impl<T: EnumSetTypeWithRepr> MachineOver<MixedEnumSet<T>> {
     /// Carries out one command, and returns its answer. A refused command changes nothing.
     #[tactic(auto, unfolding(crate::specs::MixedRuns::mixed_outcome))]
@@ -154,7 +156,7 @@ impl<S: RunSet> MachineOver<S> {
         Answer::Count(self.iterators.items_left(i) as u64)
     }
 
-    /// Puts a changed set into its register, with the answer to the change.
+    /// Puts a changed set into its register, and answers with a truth.
     pub(crate) fn replace(&mut self, r: u8, set: S, truth: bool) -> Answer<S>
         requires { is_set_register r ≡ true }
         ensures reply { reply_by S.members result ≡ Truth truth }

@@ -69,7 +69,7 @@ impl<T: EnumSetTypeWithRepr> Commands for MixedEnumSet<T> {
     }
 }
 
-/// Puts a set into a register, if each member is valid.
+/// Puts the set of one register into another, if each member is valid.
 fn as_enumset<T: EnumSetTypeWithRepr>(
     machine: &mut MachineOver<MixedEnumSet<T>>,
     to: u8,

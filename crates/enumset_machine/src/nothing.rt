@@ -13,7 +13,7 @@ use std::fmt;
 
 /// Returns the answer of `serve_worked` over the sets of an enum without variants in a `u8`, or over its mixed sets.
 ///
-/// The enum is inside the function, since the checker refuses functions that nothing can call, and nothing can make a
+/// The enum is inside the function, since the checker rejects functions that nothing can call, and nothing can make a
 /// value of this enum.
 #[tactic(auto, unfolding(enumset_sets::specs::Elements::valid_bits))]
 pub fn serve_nothing(alloc: Global, is_mixed: bool, input: &[u8]) -> Result<Vec<u8>, TextFault>

@@ -153,14 +153,14 @@ pub trait RunSet: Copy {
         requires fits { value < 2 ^ width }
         ensures { members result ≡ set.intersection (bits value) rules.allowed };
 
-    /// Writes a word of the set to each place of a slice, if each member is in one of them.
+    /// Writes a word of the set to each place of a slice, the lowest first, if each member is in one of these words.
     fn words(&self, slice: &mut [u64]) -> Option<()>
         ensures fits { IsSome result
             ↔ IsTrue (set.is_subset (members self.now) (set.below (64 * length slice.old))) }
         ensures words { IsSome result
             → slice.new ≡ words (members self.now) (length slice.old) };
 
-    /// Writes a word of the set to each place of a slice.
+    /// Writes a word of the set to each place of a slice, the lowest first.
     fn words_cut(&self, slice: &mut [u64])
         ensures { slice.new ≡ words (members self.now) (length slice.old) };
 

@@ -1,4 +1,5 @@
-//! Runs of commands, over sets and over mixed sets.
+//! Runs of commands, over sets and over mixed sets: `run_into` and `run_mixed_into` are twins, and so are `run` and
+//! `run_mixed`. Twins change together.
 
 ghost use Rattle.std.specs.Prelude.{◌≡◌, true, map, length, IfOk};
 ghost use Rattle.std.specs.List.{list_all};

@@ -1,4 +1,5 @@
-//! Answers a text of commands with the text of their replies.
+//! Answers a text of commands with the text of their replies. `serve_text` and `serve_mixed_text` are twins, which
+//! change together.
 
 ghost use Rattle.std.specs.Prelude.{◌≡◌, ◌++◌, codes, IfOk, IfErr, Ok, OnOk};
 ghost use Rattle.std.specs.String.{string_bytes};
@@ -26,14 +27,14 @@ pub const INPUT_LIMIT: usize = 1_048_576;
 /// Returns the text of the replies to the commands of an input.
 ///
 /// The errors are [`TextFault::TooLong`] for an input of more than [`INPUT_LIMIT`] bytes, else
-/// [`TextFault::BadLine`] for the first line that is not a command, and else
+/// [`TextFault::BadLine`] for the first line that is not a command, and else, if memory ran out,
 /// [`TextFault::OutOfMemory`].
 #[tactic(auto, unfolding(crate::specs::Runs::outcome))]
 pub fn serve_text<T: EnumSetType>(alloc: Global, input: &[u8]) -> Result<Vec<u8>, TextFault>
     // The replies are as over finite sets of bit numbers.
     ensures answer { IfOk result (λ out.
         answer_to (valid_bits T.elements) input.now ≡ Ok out.items) }
-    // If the input has a fault, it is reported, else out of memory.
+    // A fault of the input is reported. If it has none, the fault is that memory ran out.
     ensures fault { IfErr result (λ fault.
         IsFaultOf (answer_to (valid_bits T.elements) input.now) fault) }
 {
@@ -51,7 +52,7 @@ pub fn serve_mixed_text<T: EnumSetTypeWithRepr>(
     // The replies are as over finite sets of bit numbers below the width of the representation.
     ensures answer { IfOk result (λ out.
         mixed_answer_to (valid_bits T.elements) T.Repr.WIDTH input.now ≡ Ok out.items) }
-    // If the input has a fault, it is reported, else out of memory.
+    // A fault of the input is reported. If it has none, the fault is that memory ran out.
     ensures fault { IfErr result (λ fault.
         IsFaultOf (mixed_answer_to (valid_bits T.elements) T.Repr.WIDTH input.now) fault) }
 {

@@ -1,6 +1,6 @@
 -- The bits of a mixed set: valid bits, each the bit of a variant, and unknown bits.
---     IsKept      what every `MixedEnumSet` guarantees about the value of its representation: it is a value of its
---         type, and it is the one that represents its set
+--     IsKept      what every `MixedEnumSet` guarantees about the value that it keeps: it is a value of the
+--         representation, and `of_members` leads from its members back to it
 --     valid_members, unknown_members      the members that are valid bits;  the members that are not
 --     bit_with_validity      the bit of an item of the iterator, paired with whether it is valid
 --     with_validity      the bits of a list, each paired with whether it is valid

@@ -17,7 +17,7 @@ impl<T: EnumSetTypeWithRepr> MixedEnumSet<T> {
         self.repr
     }
 
-    /// Returns the set that a value represents, with all its bits, valid or not.
+    /// Returns the set that a value represents, with all bits of the value, valid or unknown.
     pub fn from_repr(repr: T::Repr) -> MixedEnumSet<T>
         ensures { result ≡ T.Repr.members repr }
     {
@@ -31,8 +31,8 @@ impl<T: EnumSetTypeWithRepr> MixedEnumSet<T> {
         convert_mixed(EnumSet::from_repr_truncated(repr))
     }
 
-    /// Returns the same set as a set of elements. No member may be an unknown bit:
-    /// [`try_as_enumset`](MixedEnumSet::try_as_enumset) tests this. Rust's call panics instead.
+    /// Returns the same set as a set of elements. No member may be an unknown bit, which
+    /// [`try_as_enumset`](MixedEnumSet::try_as_enumset) tests. Rust's call panics instead.
     pub fn as_enumset(&self) -> EnumSet<T>
         requires valid { IsTrue (set.is_subset self.now (valid_bits T.elements)) }
         ensures { result ≡ self.now }
@@ -53,7 +53,7 @@ impl<T: EnumSetTypeWithRepr> MixedEnumSet<T> {
         }
     }
 
-    /// Returns the set of its elements, without its unknown bits.
+    /// Returns the set of the members that are valid bits, as a set of elements.
     pub fn as_enumset_truncate(&self) -> EnumSet<T>
         ensures { result ≡ valid_members (valid_bits T.elements) self.now }
     {
@@ -79,7 +79,7 @@ impl<T: EnumSetTypeWithRepr> MixedEnumSet<T> {
 
 /// Returns the mixed set of the same elements.
 ///
-/// It mirrors `convert_mixed` of the helper module `set` of Rust's `enumset`.
+/// The function mirrors `convert_mixed` of the helper module `set` of Rust's `enumset`.
 pub fn convert_mixed<T: EnumSetTypeWithRepr>(a: EnumSet<T>) -> MixedEnumSet<T>
     ensures { result ≡ a }
 {

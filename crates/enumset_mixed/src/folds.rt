@@ -55,7 +55,8 @@ impl<T: EnumSetTypeWithRepr> IntoIterator for MixedEnumSet<T> {
     }
 }
 
-/// Adds every element that an iterator yields. The iterator must end. The call takes no memory and always returns `Ok`.
+/// Adds every element that an iterator yields. The iterator must end. The call allocates nothing and always returns
+/// `Ok`.
 impl<T: EnumSetTypeWithRepr> Extend<T> for MixedEnumSet<T> {
     ghost extend_gives = { λ s ts r. r ≡ set.union s (set.from_list (map T.elements.bit ts)) };
 
@@ -74,8 +75,8 @@ impl<T: EnumSetTypeWithRepr> Extend<T> for MixedEnumSet<T> {
     }
 }
 
-/// The set of the elements that an iterator yields. The iterator must end. The call takes no memory and always returns
-/// `Ok`.
+/// The set of the elements that an iterator yields. The iterator must end. The call allocates nothing and always
+/// returns `Ok`.
 impl<T: EnumSetTypeWithRepr> FromIterator<T> for MixedEnumSet<T> {
     type Alloc = Global;
 

@@ -7,7 +7,7 @@ use crate::mixed_enum_set::MixedEnumSet;
 use enumset_sets::EnumSetTypeWithRepr;
 use std::hash::{Hash, Hasher};
 
-/// A set feeds what the value that represents it feeds, so equal sets feed equal data.
+/// A set feeds the hasher the same data as the value that represents it, so equal sets feed equal data.
 impl<T: EnumSetTypeWithRepr> Hash for MixedEnumSet<T> {
     ghost hash_input = { λ s. T.Repr.Hash.hash_input (T.Repr.of_members s) };
 

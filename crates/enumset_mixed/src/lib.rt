@@ -1,8 +1,8 @@
 //! Sets of the variants of an enum that also keep unknown bits, which no variant has.
 //!
-//! [`MixedEnumSet`] is proved once, over every [`EnumSetTypeWithRepr`](enumset_sets::EnumSetTypeWithRepr) and every
-//! representation of `enumset_repr`, and names none of them. Contracts see a set as the finite set of its bit numbers,
-//! each below the width of the representation.
+//! [`MixedEnumSet`] names no element type and no representation: it is proved once, over every
+//! [`EnumSetTypeWithRepr`](enumset_sets::EnumSetTypeWithRepr) and every `EnumSetTypeRepr` of `enumset_repr`. Contracts
+//! see a set as the finite set of its bits, each below the width of the representation.
 #![tactic(auto)]
 
 pub mod conversions;

@@ -1,4 +1,6 @@
-//! The set of elements and of unknown bits.
+//! The type [`MixedEnumSet`] and its calls, except conversions, operators and folds.
+//!
+//! `EnumSet` of `enumset_sets` is its twin: a change of a call or of its contract here is mostly due there, too.
 
 ghost use Rattle.std.specs.Prelude.{◌≡◌, ◌<◌, ◌≤◌, IsTrue, false, not};
 ghost use Rattle.std.specs.Option.{option_map};
@@ -18,16 +20,16 @@ use std::alloc::AllocError;
 use std::fmt;
 use std::marker::{Model, PhantomData};
 
-/// A set of elements that also keeps unknown bits, as a value of a representation. So a program can pass on what a
-/// newer peer sent without losing any of it.
+/// A set of elements that also keeps unknown bits, as a value of a representation. So a program can pass on all bits
+/// that a newer peer sent.
 ///
-/// Calls with another set take a mixed set. In Rust they also take an element or an [`EnumSet`], as operators do here.
+/// Contracts see a set as the set of its bits, which are called its members. A bit is valid if a variant has it, and
+/// unknown otherwise.
 ///
-/// It mirrors `MixedEnumSet` of Rust's `enumset`, and its calls keep their names, except for
-/// [`eq_enumset`](MixedEnumSet::eq_enumset) and [`eq_element`](MixedEnumSet::eq_element).
-/// Rust's crate has neither [`copied`](MixedEnumSet::copied) nor the calls from
-/// [`is_disjoint_from`](MixedEnumSet::is_disjoint_from) to [`last`](MixedEnumSet::last). A bit is valid if a variant has
-/// it, and unknown otherwise. The parameter `R` is always the representation of `T`: write `MixedEnumSet<T>`.
+/// The struct mirrors `MixedEnumSet` of Rust's `enumset`, whose calls have the same names, except for
+/// [`eq_enumset`](MixedEnumSet::eq_enumset) and [`eq_element`](MixedEnumSet::eq_element). Calls with another set take a
+/// mixed set. In Rust they also take an element or an [`EnumSet`], as operators do here. The parameter `R` is always the
+/// representation of `T`: write `MixedEnumSet<T>`.
 pub struct MixedEnumSet<T: EnumSetTypeWithRepr, R: EnumSetTypeRepr = <T as EnumSetType>::Repr> {
     pub(crate) repr: R,
     of: PhantomData<T>,
@@ -50,7 +52,7 @@ impl<T: EnumSetTypeWithRepr, R: EnumSetTypeRepr> Model for MixedEnumSet<T, R> {
     ghost inverse_ok = { λ a h i. record { repr = h.inverse i; of = a.of } };
 }
 
-/// The same set, always `Ok`. A set is `Copy`, so this is for generic code.
+/// `clone` returns the same set, and never fails. A set is `Copy`, so only generic code calls `clone`.
 impl<T: EnumSetTypeWithRepr, R: EnumSetTypeRepr> Clone for MixedEnumSet<T, R> {
     ghost use Rattle.std.specs.Prelude.{⊤};
 
@@ -88,7 +90,7 @@ impl<T: EnumSetTypeWithRepr> Eq for MixedEnumSet<T> {
     ghost laws = { is_same-IsEquivalence };
 }
 
-/// The empty set.
+/// `default` returns the empty set.
 impl<T: EnumSetTypeWithRepr> Default for MixedEnumSet<T> {
     ghost use Rattle.std.specs.Prelude.{◌≡◌};
     ghost use Rattle.enumset_repr.specs.BitSet.{empty};
@@ -100,8 +102,8 @@ impl<T: EnumSetTypeWithRepr> Default for MixedEnumSet<T> {
     }
 }
 
-/// `MixedEnumSet(`, the `{:?}` texts of the members, ascending by bit and joined by ` | `, and `)`. The text of an
-/// unknown bit is its number in brackets, such as `[3]`. No contract is about `{:?}`; tests are.
+/// `{:?}` writes `MixedEnumSet(`, the `{:?}` texts of the members, ascending by bit and joined by ` | `, and `)`. The
+/// text of an unknown bit is its number in brackets, such as `[3]`. No contract says so; tests do.
 impl<T: EnumSetTypeWithRepr + fmt::Debug> fmt::Debug for MixedEnumSet<T> {
     fn fmt<W: fmt::Write>(&self, f: &mut fmt::Formatter<W>) -> fmt::Result {
         f.write_str("MixedEnumSet(")?;
@@ -116,11 +118,11 @@ impl<T: EnumSetTypeWithRepr + fmt::Debug> fmt::Debug for MixedEnumSet<T> {
 }
 
 impl<T: EnumSetTypeWithRepr> MixedEnumSet<T> {
-    /// The set that a value represents.
+    /// Returns the set that a value represents.
     pub(crate) fn of_repr(repr: T::Repr) -> MixedEnumSet<T>
         ensures { result ≡ T.Repr.members repr }
     {
-        // The invariant of the type is about values only.
+        // Tells the proof that `repr` is a value of its type, as the invariant of `MixedEnumSet` says.
         repr.learn_is_value();
         MixedEnumSet {
             repr,
@@ -172,8 +174,8 @@ impl<T: EnumSetTypeWithRepr> MixedEnumSet<T> {
         EnumSet::<T>::bit_index(t)
     }
 
-    /// Returns whether a bit is valid: whether a variant has it. No bit at or past the width of the representation is
-    /// valid. In Rust's `enumset` the call then concerns another bit, overflows or panics.
+    /// Returns whether a bit is valid, which is whether a variant has it. No bit at or past the width of the
+    /// representation is valid. For such a bit the call of Rust's `enumset` tests another bit, overflows or panics.
     pub fn is_bit_valid(bit: u32) -> bool
         ensures valid { result ≡ set.contains (valid_bits T.elements) bit }
         ensures of_a_variant { result ≡ set.is_in bit T.elements.bit_list }
@@ -235,7 +237,7 @@ impl<T: EnumSetTypeWithRepr> MixedEnumSet<T> {
     }
 
     /// Returns whether a bit is a member, valid or unknown. No bit at or past the width of the representation is a
-    /// member. In Rust's `enumset` the call then concerns another bit, overflows or panics.
+    /// member. For such a bit the call of Rust's `enumset` tests another bit, overflows or panics.
     pub fn has_bit(&self, value: u32) -> bool
         ensures has { result ≡ set.contains self.now value }
         ensures past { T.Repr.WIDTH ≤ value → result ≡ false }
@@ -251,9 +253,9 @@ impl<T: EnumSetTypeWithRepr> MixedEnumSet<T> {
         self.insert_bit(Self::bit_index(value))
     }
 
-    /// Adds a bit, valid or not, and returns whether it was absent. The bit must be below the width of the
-    /// representation, `T::Repr::WIDTH`. In Rust's `enumset` the call for any other bit concerns another bit, overflows
-    /// or panics.
+    /// Adds a bit, valid or unknown, and returns whether it was absent. The bit must be below the width of the
+    /// representation, `T::Repr::WIDTH`. For any other bit the call of Rust's `enumset` adds another bit, overflows or
+    /// panics.
     pub fn insert_bit(&mut self, value: u32) -> bool
         requires { value < T.Repr.WIDTH }
         ensures inserted { self.new ≡ set.insert self.old value }
@@ -275,9 +277,9 @@ impl<T: EnumSetTypeWithRepr> MixedEnumSet<T> {
         is_present
     }
 
-    /// Removes a bit, valid or not, and returns whether it was present. A bit at or past the width of the
-    /// representation is never present, so the call returns false and the set stays as it was. In Rust's `enumset` the
-    /// call then concerns another bit, overflows or panics.
+    /// Removes a bit, valid or unknown, and returns whether it was present. A bit at or past the width of the
+    /// representation is never present, so the call returns false and the set stays as it was. For such a bit the call
+    /// of Rust's `enumset` removes another bit, overflows or panics.
     #[tactic(auto, using(enumset_repr::specs::Laws::Algebra::remove_absent))]
     pub fn remove_bit(&mut self, value: u32) -> bool
         ensures removed { self.new ≡ set.remove self.old value }
@@ -349,17 +351,17 @@ impl<T: EnumSetTypeWithRepr> MixedEnumSet<T> {
     }
 
     /// Returns the valid bits that are not in the set, as elements. The result has no unknown bits, so it tells which
-    /// elements are missing. To invert what is sent on to a peer, use
-    /// [`full_complement`](MixedEnumSet::full_complement): that inverts the bits of newer variants too.
+    /// elements are missing. To invert all bits, those of a newer peer's variants too, use
+    /// [`full_complement`](MixedEnumSet::full_complement).
     pub fn complement(&self) -> MixedEnumSet<T>
         ensures { result ≡ set.difference (valid_bits T.elements) self.now }
     {
         Self::of_repr(valid_repr::<T>().and_not(self.repr))
     }
 
-    /// Returns all bits below the width of the representation that are not in the set, valid or not. Each member of the
-    /// set is below the width, so the full complement of the full complement is the set itself.
-    /// [`complement`](MixedEnumSet::complement) has only the elements.
+    /// Returns all bits below the width of the representation that are not in the set, valid or unknown. Each member of
+    /// the set is below the width, so the full complement of the full complement is the set itself.
+    /// [`complement`](MixedEnumSet::complement) returns only the valid ones.
     pub fn full_complement(&self) -> MixedEnumSet<T>
         ensures complement { result ≡ set.difference (set.below T.Repr.WIDTH) self.now }
         ensures within { IsTrue (set.is_subset self.now (set.below T.Repr.WIDTH)) }
@@ -425,7 +427,7 @@ impl<T: EnumSetTypeWithRepr> MixedEnumSet<T> {
         self.repr.or_changes(&other.repr)
     }
 
-    /// Removes every member that is not in `other`, and returns whether there was one.
+    /// Removes every member that is not in `other`, and returns whether there was such a member.
     pub fn intersect_with(&mut self, other: &MixedEnumSet<T>) -> bool
         ensures intersection { self.new ≡ set.intersection self.old other.now }
         ensures changed { result ≡ not (set.is_subset self.old other.now) }

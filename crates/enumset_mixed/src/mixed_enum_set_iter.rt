@@ -1,4 +1,6 @@
 //! The iterator over the members of a mixed set.
+//!
+//! `EnumSetIter` of `enumset_sets` is its twin: a change here is mostly due there, too.
 
 ghost use Rattle.std.specs.Prelude.{◌≡◌, length};
 ghost use Rattle.std.specs.Iterator.{YieldsFirstBy, YieldsLastBy, item_count};
@@ -17,10 +19,10 @@ use std::marker::Model;
 /// An iterator over the members of a mixed set, ascending by bit: the element for a valid bit, the number for an
 /// unknown one.
 ///
-/// It mirrors `MixedEnumSetIter` of Rust's `enumset`. Contracts see the list of the bits left, the count of asks, which
-/// are counted reads of a word, and the span: how many asks the iterator may still need beyond one for each member. So
-/// k steps, from either end, make at most k asks plus the span. Once one end has yielded `None`, both ends yield `None`
-/// from then on.
+/// The struct mirrors `MixedEnumSetIter` of Rust's `enumset`. Contracts see the list of the bits left, the count of
+/// asks (counted reads of a word), and the span: how many asks the iterator may still make beyond one for each member
+/// left. So k steps, from either end, make at most k asks plus the span. Once one end has yielded `None`, both ends
+/// yield `None` from then on.
 pub struct MixedEnumSetIter<T: EnumSetType> {
     iter: <T::Repr as EnumSetTypeRepr>::Iter,
 }
@@ -40,7 +42,7 @@ impl<T: EnumSetType> Drop for MixedEnumSetIter<T> {
 }
 
 impl<T: EnumSetType> MixedEnumSetIter<T> {
-    /// The iterator over the members of a value.
+    /// Returns the iterator over the members of a value.
     pub(crate) fn over(repr: T::Repr) -> MixedEnumSetIter<T>
         ensures { IsFresh (set.ascending (T.Repr.members repr)) T.Repr.PREFERRED_ARRAY_LEN result }
     {
@@ -48,7 +50,7 @@ impl<T: EnumSetType> MixedEnumSetIter<T> {
     }
 }
 
-/// An iterator with the same members left, always `Ok`.
+/// `clone` returns an iterator with the same members left, and never fails.
 impl<T: EnumSetType> Clone for MixedEnumSetIter<T> {
     ghost use Rattle.std.specs.Prelude.{◌≡◌, ⊤};
 

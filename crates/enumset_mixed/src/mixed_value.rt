@@ -10,8 +10,8 @@ use std::fmt;
 
 /// A member of a mixed set: an element, or a bit that no variant has.
 ///
-/// It mirrors `MixedValue` of Rust's `enumset`. Every `Valid` is less than every `Invalid`, whatever their bits, while
-/// an iterator yields both kinds ascending by bit.
+/// The enum mirrors `MixedValue` of Rust's `enumset`. Every `Valid` is less than every `Invalid`, whatever their bits,
+/// while an iterator yields both kinds ascending by bit.
 #[derive(Clone, Copy, PartialEq, Eq, PartialOrd, Ord, Hash)]
 pub enum MixedValue<T: EnumSetType> {
     /// The element of a valid bit.
@@ -20,8 +20,8 @@ pub enum MixedValue<T: EnumSetType> {
     Invalid(u32),
 }
 
-/// The `{:?}` text of the element, or the number of the bit in brackets, such as `[3]`. No contract is about `{:?}`;
-/// tests are.
+/// `{:?}` writes the `{:?}` text of the element, or the number of the bit in brackets, such as `[3]`. No contract says
+/// so; tests do.
 impl<T: EnumSetType + fmt::Debug> fmt::Debug for MixedValue<T> {
     fn fmt<W: fmt::Write>(&self, f: &mut fmt::Formatter<W>) -> fmt::Result {
         match self {
@@ -31,7 +31,7 @@ impl<T: EnumSetType + fmt::Debug> fmt::Debug for MixedValue<T> {
     }
 }
 
-/// The member with a bit: `Valid` of its element if the bit is valid, else `Invalid` of its number.
+/// Returns the member with a bit: `Valid` of its element if the bit is valid, else `Invalid` of the bit.
 pub(crate) fn value_of<T: EnumSetType>(bit: u32) -> MixedValue<T>
     ensures { bit_with_validity T.elements.bit result
         ≡ (bit, contains (valid_bits T.elements) bit) }

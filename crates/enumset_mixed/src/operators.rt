@@ -11,7 +11,8 @@ use std::ops::{
     BitAnd, BitAndAssign, BitOr, BitOrAssign, BitXor, BitXorAssign, Not, Sub, SubAssign,
 };
 
-/// `!a`: the valid bits that are not in the set, as [`complement`](MixedEnumSet::complement). It has no unknown bits.
+/// `!a`: the valid bits that are not in the set, as [`complement`](MixedEnumSet::complement). The result has no unknown
+/// bits.
 impl<T: EnumSetTypeWithRepr> Not for MixedEnumSet<T> {
     type Output = MixedEnumSet<T>;
 

@@ -9,7 +9,7 @@ NoneIn f from to = (w : ℕ) → from ≤ w → w < to → f w ≡ 0
 or_zero : (x y : ℕ) → bit_or x y ≡ 0 → (x ≡ 0) × (y ≡ 0)
 or_zero x y none = (omega (arith, none, le_or_l x y), omega (arith, none, le_or_r x y))
 
--- what is 0 up to a place and at that place is 0 up to the next one
+-- words that are 0 up to a place i, and at this place, are 0 up to place i + 1
 pub one_more : (f : ℕ → ℕ) (from i any x : ℕ) → from ≤ i → x ≡ f i → (any ≡ 0) ↔ NoneIn f from i → (bit_or any x ≡ 0) ↔ NoneIn f from (i + 1)
 one_more f from i any x start is before = (
   λ none w h k. let parts = or_zero any x none in let earlier = before.0 parts.0 w h in grind arith,

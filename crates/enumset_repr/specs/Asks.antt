@@ -3,7 +3,7 @@
 --         far, and the span, which is the number of asks that may still be needed beyond one for each item
 --     BoundsAsks      a step never lowers the count of asks, and raises the sum of asks and span by at most one if it
 --         yields an item, and not at all otherwise
---     IsCounted      each step from either end keeps to these bounds, and a clone has the same asks and span
+--     IsCounted      each step from either end is within these bounds, and a clone has the same asks and span
 --     IsFresh      an iterator has all items of a list left, has made no ask, and its span is at most a given number of
 --         words
 use Rattle.std.specs.Prelude.{◌≡◌, ℕ, ◌+◌, ◌≤◌, List, Option, is_some, if◌then◌else◌}

@@ -1,4 +1,4 @@
--- Finite sets of bit numbers: in contracts, a value of a representation, an `EnumSet` and a register of a run.
+-- Finite sets of bit numbers: what contracts see of an `EnumSet`, and what a value of a representation represents.
 --     is_in      whether a number is in a list
 --     BitSet, coded_set      the sets;  their code, which a model's `Value` needs and no clause cites
 --     contains      whether a number is a member

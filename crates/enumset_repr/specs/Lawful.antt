@@ -40,7 +40,8 @@ abbrev pub once_known : ℕ → Type 0 → Type 0
 once_known zero next = next
 once_known (suc n) next = next
 
--- an enum without fields; one bit for each variant, and no two the same; a test of ALL_BITS; the width and the count
+-- what is tested, in this order: one bit for each variant, no two the same, `valid` (a test of ALL_BITS), the width,
+-- the count, and that the enum has no fields
 abbrev pub IsLawful : (D : Declared) → List ℕ → Bool → Type 0 → ℕ → ℕ → Type 0
 IsLawful D bs valid fault width count =
     once_known width (once_known count

@@ -7,8 +7,8 @@ use std::marker::{Model, PhantomData};
 
 /// A number of asks, which are counted reads of a word.
 ///
-/// It takes no bytes at run time and has no upper limit. Contracts see it as a number. It is for iterators that count
-/// what they read, and Rust's `enumset` has nothing like it.
+/// A value takes no bytes at run time, and has no upper limit. Contracts see it as a number. Iterators over words keep
+/// one to count what they read. Rust's `enumset` has nothing like it.
 #[derive(Drop)]
 pub struct Asks {
     marker: PhantomData<()>,
@@ -27,8 +27,8 @@ impl Model for Asks {
 }
 
 impl Asks {
-    /// Returns a count of `n` asks, where the proof of the caller picks the number. The other calls make their counts
-    /// with this one. It is for proofs: at run time a count has no bytes.
+    /// Returns a count of `n` asks. `n` is a ghost argument, which the caller's proof gives: at run time a count has no
+    /// bytes. The other calls of `Asks` make their counts with this one.
     pub fn counted() -> Asks
         ghost n: { ℕ }
         ensures { result ≡ n }
@@ -38,7 +38,7 @@ impl Asks {
         }
     }
 
-    /// A count whose number may depend on the number of another.
+    /// Returns a count of `n` asks. Unlike in `counted`, `n` may depend on the count `other`.
     fn counted_from(other: &Asks) -> Asks
         ghost n: { ℕ }
         ensures { result ≡ n }
@@ -46,7 +46,7 @@ impl Asks {
         Asks::counted()
     }
 
-    /// Returns a count of no asks.
+    /// Returns a count of 0 asks.
     pub fn new() -> Asks
         ensures { result ≡ 0 }
     {

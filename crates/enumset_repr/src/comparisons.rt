@@ -7,7 +7,7 @@ ghost use Rattle.enumset_repr.specs.Order.{compare};
 use crate::repr::EnumSetTypeRepr;
 use std::cmp::Ordering;
 
-/// Returns whether both sets have the same members. Rust's `enumset` writes `==`.
+/// Returns whether the two values represent the same set. Rust's `enumset` writes `==`.
 #[tactic(auto, using(crate::specs::Laws::Members::is_same_iff))]
 pub fn are_same<R: EnumSetTypeRepr>(a: &R, b: &R) -> bool
     ensures { result ≡ set.is_same (R.members a.now) (R.members b.now) }
@@ -18,8 +18,8 @@ pub fn are_same<R: EnumSetTypeRepr>(a: &R, b: &R) -> bool
     a.eq(b)
 }
 
-/// Returns how the two sets compare: the greater is the one that has the greatest number that is in exactly one of
-/// them. Rust's `enumset` writes `cmp`.
+/// Returns how the sets of the two values compare: the greater is the one that has the greatest number that is in
+/// exactly one of them. Rust's `enumset` writes `cmp`.
 pub fn order_of<R: EnumSetTypeRepr>(a: &R, b: &R) -> Ordering
     ensures { result ≡ compare (R.members a.now) (R.members b.now) }
 {

@@ -32,7 +32,7 @@ pub fn greatest_bit<R: EnumSetTypeRepr>(repr: &R) -> Option<u32>
 {
     learn_members(repr);
     let mut end = R::PREFERRED_ARRAY_LEN;
-    // Zeros are passed sixteen words at a time, here and below.
+    // Words that are 0 are skipped sixteen at a time, here and in `least_bit_from_word`.
     while end >= 16 && are_zero(repr, end - 16, end) {
         end -= 16;
     }
@@ -45,7 +45,7 @@ pub fn greatest_bit<R: EnumSetTypeRepr>(repr: &R) -> Option<u32>
     None
 }
 
-/// The least member in the words from place `from` on, or `None` if there is none.
+/// Returns the least member in the words from place `from` on, or `None` if there is none.
 #[inline(always)]
 fn least_bit_from_word<R: EnumSetTypeRepr>(repr: &R, from: usize) -> Option<u32>
     ensures { result ≡ least (set.difference (R.members repr.now) (set.below (64 * from))) }
@@ -65,7 +65,7 @@ fn least_bit_from_word<R: EnumSetTypeRepr>(repr: &R, from: usize) -> Option<u32>
     None
 }
 
-/// Tells the proof that each member is below the width, which is a `u32`. It does nothing at run time.
+/// Tells the proof that each member is below the width, which is a `u32`. The call does nothing at run time.
 #[inline]
 fn learn_members<R: EnumSetTypeRepr>(repr: &R)
     ensures within { IsTrue (set.is_subset (R.members repr.now) (set.below R.WIDTH)) }

@@ -6,7 +6,8 @@ use crate::repr::EnumSetTypeRepr;
 
 /// A representation whose values feed a hasher different data, unless they are equal.
 ///
-/// [`EnumSetTypeRepr`] asks only that equal values feed the same data, as `Hash` of std does: to feed nothing would do.
+/// [`EnumSetTypeRepr`] only requires that equal values feed the same data, as `Hash` of std does: a representation that
+/// feeds nothing meets this.
 /// Rust's `enumset` has no such trait.
 pub trait InjectiveHash: EnumSetTypeRepr {
     // Values that feed the same data are equal.

@@ -1,4 +1,4 @@
-//! Laws that a proof learns from a call. They have no counterpart in Rust's `enumset`.
+//! Laws that a proof learns from a call. Rust's `enumset` has nothing like them.
 
 ghost use Rattle.std.specs.Prelude.{◌≡◌, ◌≢◌, ◌↔◌, ◌<◌, ◌==◌, ◌&&◌, ◌||◌, ℕ, Bool, List, IsTrue, false, length, nat_lt, not, slice_index};
 ghost use Rattle.std.specs.Cmp.{IsTotalOrder};
@@ -11,12 +11,15 @@ ghost use Rattle.enumset_repr.specs.Order.{compare};
 
 use crate::repr::EnumSetTypeRepr;
 
-/// Tells the proof the equations of sets: which numbers are in each set, that sets with the same members are equal, that
-/// a set is given by the list of its members, which ascends and whose length is the number of members, and what the tests
-/// of sets say.
+/// Tells the proof the equations of sets:
 ///
-/// The equations determine each operation, so a reader who believes them need not read how sets are defined. It does
-/// nothing at run time.
+/// - which numbers are members of the result of each operation;
+/// - that sets with the same members are equal;
+/// - that a set is the set of the list of its members, which ascends, and that `len` is the length of this list;
+/// - what the tests `is_subset`, `is_disjoint`, `is_same` and `is_empty` say of the members.
+///
+/// The equations determine each operation, so a reader who believes them need not read how sets are defined. The call
+/// does nothing at run time.
 #[tactic(auto, using(crate::specs::Laws::Model::equations))]
 pub fn model()
     ensures empty { (q : ℕ) → contains set.empty q ≡ false }
@@ -59,8 +62,7 @@ pub fn model()
 /// The order is total, and only equal sets compare as equal. A proper subset is less. For two subsets of one set,
 /// their complements in that set compare the other way round. The greater set has the greater number.
 ///
-/// It does nothing at run time. A proof about a function that calls it knows these laws. They hold for `cmp` of every
-/// representation, and of every set over one.
+/// The laws hold for `cmp` of every representation, and of every set over one. The call does nothing at run time.
 #[tactic(auto, using(crate::specs::Laws::Order::orders))]
 pub fn order()
     ensures total { IsTotalOrder compare }
@@ -71,10 +73,10 @@ pub fn order()
     ensures number { (s t : BitSet) → compare s t ≡ nat_cmp (number s) (number t) }
 {}
 
-/// Tells the proof that each set below the width of a representation is represented in it: `of_members` of the set is a
-/// value of the type, and the set of this value is the set. So a set may move from one representation to another.
+/// Tells the proof that each set below the width of a representation has a value there: `of_members` of the set is a
+/// value of the type, and represents the set. So a set may move from one representation to another.
 ///
-/// It does nothing at run time.
+/// The call does nothing at run time.
 pub fn represented<R: EnumSetTypeRepr>()
     ensures { (s : BitSet) → IsTrue (is_subset s (below R.WIDTH))
         → R.is_value (R.of_members s) × (R.members (R.of_members s) ≡ s) }

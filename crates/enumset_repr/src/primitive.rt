@@ -5,11 +5,11 @@ ghost use Rattle.enumset_repr.specs.BitSet as set;
 ghost use Rattle.enumset_repr.specs.BitSet.{BitSet};
 ghost use Rattle.enumset_repr.specs.Ends.{least, greatest};
 
-/// An integer of [`BITS`](Primitive::BITS) bits. It represents the set of the numbers of its bits that are 1, counted
-/// from the lowest, which is 0.
+/// An integer of [`BITS`](Primitive::BITS) bits. It represents the set of the numbers of its bits that are 1, where the
+/// lowest bit has the number 0.
 ///
-/// It mirrors `Primitive` of Rust's `enumset`. There the iterator also needs `WIDTH`, `is_empty`, `count_ones` and
-/// `remove_bit` of a representation. Here [`BITS`](Primitive::BITS), [`ones`](Primitive::ones),
+/// The trait mirrors `Primitive` of Rust's `enumset`. There the iterator also needs `WIDTH`, `is_empty`, `count_ones`
+/// and `remove_bit` of a representation. Here [`BITS`](Primitive::BITS), [`ones`](Primitive::ones),
 /// [`without`](Primitive::without) and [`without_least`](Primitive::without_least) take their place, so the iterator
 /// needs no representation.
 pub trait Primitive: Copy {

@@ -9,11 +9,12 @@ use std::alloc::AllocError;
 
 /// An iterator over the bits that are set in an integer, by number, each once, ascending, from both ends.
 ///
-/// `size_hint` and `len` are exact, and a clone has the same bits left. It mirrors `PrimitiveIter` of Rust's `enumset`.
+/// `size_hint` and `len` are exact, and a clone has the same bits left. The struct mirrors `PrimitiveIter` of Rust's
+/// `enumset`.
 #[derive(Copy, Debug)]
 pub struct PrimitiveIter<T: Primitive>(pub T);
 
-/// An iterator with the same bits left, always `Ok`.
+/// `clone` returns an iterator with the same bits left, and never fails.
 impl<T: Primitive> Clone for PrimitiveIter<T> {
     ghost is_clone = { λ it copy. copy ≡ it };
 

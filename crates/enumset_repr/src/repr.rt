@@ -15,25 +15,28 @@ use std::ops::{BitAnd, BitOr, BitXor, Not};
 
 /// A representation. Each of its values represents a set of bit numbers below [`WIDTH`](EnumSetTypeRepr::WIDTH).
 ///
-/// A type that implements the trait says which set each value represents, and proves that each call is that set's
-/// operation. So contracts of code over a representation are about sets alone. The items come in this order:
+/// A type that implements the trait says which set each of its values represents, and proves that each call is the set
+/// operation of its name. So contracts of code over a representation are about sets alone.
+///
+/// The items come in this order:
 ///
 /// 1. Ghost members, which say which set a value represents, and which value represents a set; the constants; the
-///    iterator, with what it has left.
+///    iterator, with the items that it has left.
 /// 2. The eight calls that a representation writes, from `is_empty` to `put_word`.
-/// 3. The calls with a default body, which it may replace.
-/// 4. The four laws, which it proves. `represents` relates values and sets one to one.
-/// 5. The 28 conversions to and from slices of words and numbers, which no representation writes. They are `final`: each
-///    is proved once, over the calls above.
+/// 3. The calls with a default body, which a representation may replace.
+/// 4. The four laws, which a representation proves. The law `represents` relates values and sets one to one.
+/// 5. The 28 conversions to and from slices of words and numbers, which no representation writes. They are `final`, so
+///    each is proved once, over the calls above.
 ///
-/// The trait mirrors `EnumSetTypeRepr` of Rust's `enumset`, and its calls keep their names. These have no counterpart
+/// The trait mirrors `EnumSetTypeRepr` of Rust's `enumset`, whose calls have the same names. These have no counterpart
 /// there: `or_with`, `and_with`, `xor_with`, `and_not_with`, `is_subset_of`, `is_disjoint_from`, `or_changes`,
-/// `and_changes`, `and_not_changes`, `word`, `put_word`, `items_left`, `same_iter` and `learn_is_value`. The conversions
-/// to and from arrays are functions of [`arrays`](crate::arrays), and the ends of a set are functions of
+/// `and_changes`, `and_not_changes`, `word`, `put_word`, `items_left`, `same_iter` and `learn_is_value`. The
+/// conversions to and from arrays are functions of [`arrays`](crate::arrays), and the ends of a set are functions of
 /// [`ends`](crate::ends).
 ///
-/// The default bodies of calls with two sets build values, and those of `or_changes`, `and_changes` and `and_not_changes`
-/// are two passes, a test and then the change. A representation of many words should have its own, of one pass each.
+/// The default bodies of calls with two sets build values, and those of `or_changes`, `and_changes` and
+/// `and_not_changes` are two passes, a test and then the change. A representation of many words should have its own, of
+/// one pass each.
 #[tactic(auto, using(crate::specs::Laws::Widths::cuts_to))]
 pub trait EnumSetTypeRepr: Copy
     + Eq
@@ -59,12 +62,12 @@ pub trait EnumSetTypeRepr: Copy
 
     ghost PREFERRED_ARRAY_LEN: { ℕ };
 
-    /// The number of words of 64 bits that hold the bits: the width over 64, rounded up.
+    /// The number of words of 64 bits that a value has: the width divided by 64, rounded up.
     const PREFERRED_ARRAY_LEN: usize;
 
     ghost WIDTH: { ℕ };
 
-    /// The number of bits.
+    /// The number of bits that a value can keep. Each member of its set is below this number.
     const WIDTH: u32;
 
     ghost EMPTY: { Self };
@@ -85,15 +88,15 @@ pub trait EnumSetTypeRepr: Copy
     // The items that an iterator has not yet yielded.
     ghost rest: { Self.Iter → List ℕ };
 
-    // How many asks an iterator has made, which are counted reads of a word.
+    // How many asks (counted reads of a word) an iterator has made.
     ghost asks: { Self.Iter → ℕ } = { λ _. 0 };
 
-    // How many asks an iterator may still need beyond one for each item.
+    // How many asks an iterator may still make beyond one for each item left.
     ghost span: { Self.Iter → ℕ } = { λ _. 0 };
 
     // ---- the calls that a representation writes
 
-    /// Returns whether the set is empty. A proof also learns that the value is one of its type.
+    /// Returns whether the set is empty. A proof also learns that `self` is a value of the type.
     fn is_empty(&self) -> bool
         ensures empty { result ≡ set.is_empty (members self.now) }
         ensures value { is_value self.now };
@@ -139,10 +142,9 @@ pub trait EnumSetTypeRepr: Copy
 
     // ---- the calls with a default body, which a representation may replace
 
-    /// Tells the proof that the value is one of its type, and changes nothing.
+    /// Tells the proof that `self` is a value of the type, and changes nothing.
     ///
-    /// The default body asks whether the set is empty. A representation of many words should have its own, which reads
-    /// no word.
+    /// The default body calls `is_empty`. A representation of many words should have a body that reads no word.
     fn learn_is_value(self)
         ensures { is_value self }
     {
@@ -153,7 +155,7 @@ pub trait EnumSetTypeRepr: Copy
     fn and_not(&self, other: Self) -> Self
         ensures { members result ≡ set.difference (members self.now) (members other) }
     {
-        // The laws of `!` and of the width are about values alone.
+        // The laws of `!` and of the width hold only for values of the type.
         self.learn_is_value();
         other.learn_is_value();
         *self & !other
@@ -165,7 +167,7 @@ pub trait EnumSetTypeRepr: Copy
         ensures value { is_value self.new }
     {
         *self = *self | *other;
-        // The clause `value` needs it, here and below.
+        // This proves the clause `value`, here and in the methods below.
         self.learn_is_value();
     }
 
@@ -222,7 +224,7 @@ pub trait EnumSetTypeRepr: Copy
         !has_all
     }
 
-    /// Removes every member that is not in `other`, in place, and returns whether there was one.
+    /// Removes every member that is not in `other`, in place, and returns whether there was such a member.
     fn and_changes(&mut self, other: &Self) -> bool
         ensures members { members self.new ≡ set.intersection (members self.old) (members other.now) }
         ensures value { is_value self.new }
@@ -244,15 +246,16 @@ pub trait EnumSetTypeRepr: Copy
         !keeps_all
     }
 
-    /// Returns the number of items that an iterator has left. Code over any representation calls it instead of
-    /// `size_hint`.
+    /// Returns the number of items that an iterator has left. Code over any representation calls this function, and not
+    /// `size_hint` of the iterator.
     fn items_left(iter: &Self::Iter) -> usize
         ensures { result ≡ length (rest iter.now) }
     {
         iter.len()
     }
 
-    /// Returns an iterator with the same items left. Code over any representation calls it instead of `clone`.
+    /// Returns an iterator with the same items left. Code over any representation calls this function, which never
+    /// fails, and not `clone` of the iterator.
     fn same_iter(iter: &Self::Iter) -> Self::Iter
         ensures rest { rest result ≡ rest iter.now }
         ensures asks { asks result ≡ asks iter.now }
@@ -266,9 +269,9 @@ pub trait EnumSetTypeRepr: Copy
 
     // ---- the laws that a representation proves
 
-    // The set of each value is below the width, and a value is the one that represents its set. So no two values
-    // represent the same set. Each set below the width is represented by a value of the type. Values are equal, and
-    // compare, as their sets do.
+    // The members of each value are below the width, and `of_members` leads from them back to the value. So no two
+    // values represent the same set. Each set below the width is represented by a value of the type. Values are equal,
+    // and compare, as their sets do.
     ghost represents: { IsRepresentation members of_members is_value EMPTY WIDTH PREFERRED_ARRAY_LEN
         Self.PartialEq.eq Self.Ord.cmp };
 
@@ -297,7 +300,7 @@ pub trait EnumSetTypeRepr: Copy
     final fn to_u64_slice(&self, out: &mut [u64])
         ensures { out.new ≡ words (members self.now) (length out.old) }
     {
-        // The proof needs this: a value of the type has no member past its last word.
+        // Tells the proof that the set has no member past the last word of the representation.
         self.learn_is_value();
         let used = out.len().min(Self::PREFERRED_ARRAY_LEN);
         for i in 0..used {
@@ -349,7 +352,7 @@ pub trait EnumSetTypeRepr: Copy
         Some(repr)
     }
 
-    // ---- u128, by words; the smaller types go by u128, and by one word where a number may be refused
+    // ---- u128, by a list of two words. The smaller types go by u128, except `try_to_..`, which goes by one word.
 
     /// Returns the set with the bits of a number. Bits at or past the width are left out.
     final fn from_u128(v: u128) -> Self
@@ -560,7 +563,7 @@ pub trait EnumSetTypeRepr: Copy
 pub fn word_or_zero<R: EnumSetTypeRepr>(repr: &R, i: usize) -> u64
     ensures { result ≡ word_of (R.members repr.now) i }
 {
-    // The proof needs this: a value of the type has no member past its last word.
+    // Tells the proof that the set has no member past the last word of the representation.
     repr.learn_is_value();
     if i < R::PREFERRED_ARRAY_LEN {
         repr.word(i)
@@ -569,14 +572,14 @@ pub fn word_or_zero<R: EnumSetTypeRepr>(repr: &R, i: usize) -> u64
     }
 }
 
-/// Whether every member is below 64 times `from`: whether each word from that place on is 0.
+/// Returns whether every member is below 64 times `from`, which is whether each word from place `from` on is 0.
 ///
-/// The words are read sixteen at a time, up to the first sixteen that are not all 0. If there are at least sixteen, the
-/// first word is tested by itself before that.
+/// These words are tested in blocks of sixteen, up to the first block that is not 0; the words left over are the last
+/// block. If there are at least sixteen words, the first one is tested by itself before all blocks.
 fn has_no_word_from<R: EnumSetTypeRepr>(repr: &R, from: usize) -> bool
     ensures { result ≡ set.is_subset (R.members repr.now) (set.below (64 * from)) }
 {
-    // The proof needs this: a value of the type has no member past its last word.
+    // Tells the proof that the set has no member past the last word of the representation.
     repr.learn_is_value();
     let len = R::PREFERRED_ARRAY_LEN;
     if len <= from {

@@ -132,6 +132,7 @@ fn write_output<W: Write>(writer: &mut W, output: &[u8]) -> Result<(), ProgramFa
         return Ok(());
     }
     let mut count = 0;
+    // The range only shows that the loop ends: no run makes so many calls.
     for _ in 0..u64::MAX {
         match writer.write(&output[count..]) {
             Ok(0) => return Err(ProgramFault::Writing),

@@ -10,7 +10,7 @@ use Rattle.enumset_repr.specs.Laws.Members.{members, subsets, is_subset_contains
 use Rattle.enumset_sets.specs.Elements.{Elements, valid_bits}
 use Rattle.enumset_sets.specs.Laws.Elements.{is_valid_bit}
 
--- a set without an end is empty
+-- a set without a least member is empty, and so is one without a greatest
 pub no_least : (s : BitSet) → None ≡ least s → (ascending s ≡ []) × (s ≡ empty)
 no_least s is = let none = ascending_no_least s (sym is) in (none, empty_of_ascending s none)
 

@@ -26,7 +26,7 @@ module _ {T F : Type 0} (bit : T → ℕ) (g : Mut F (T × Unit {0}) Bool) where
   pub left : (f : F) (s t : BitSet) → Retains bit g f s t → is_subset t s ≡ true
   left f s t calls = contains_is_subset t s (λ q one. each_left calls.1.0 (f, s) (calls.0, t) q calls.1.2 one)
 
--- `Usual` holds for the closure at each call
+-- `Usual` is a property that the closure has before each call, and keeps
 module _ {T F : Type 0} (bit : T → ℕ) (g : Mut F (T × Unit {0}) Bool) (p : ℕ → Bool) (Usual : F → Type 0)
     (test : (t : T) (f : F) (b : Bool) (f' : F) → Usual f → Called g f (t, tt) b f' → (b ≡ p (bit t)) × Usual f') where
   each_kept : (xs : List T) (u v : F × BitSet) (q : ℕ) → Usual u.0 → FoldsTo (Keeps bit g) u xs v → contains v.1 q ≡ (contains u.1 q && (not (is_in q (map bit xs)) || p q))

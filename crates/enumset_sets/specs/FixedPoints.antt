@@ -1,10 +1,10 @@
 -- Least fixed points of steps from sets to sets: what is reached in any number of steps, what follows from what.
 --     union_over      the union of the sets that the members of a set lead to
 --     leading_to      the numbers of a set that lead to some member of another set
---     IsMonotone      a step that leads to no less from more
+--     IsMonotone      a step that leads from a subset to a subset
 --     IsClosed      a set that a step does not leave
---     IsReached      a set that has a start, and is in each closed set that has it
---     IsLeastClosed      the least closed set that has a start
+--     IsReached      a set that contains a start, and is a subset of each closed set that contains the start
+--     IsLeastClosed      the least closed set that contains a start
 --     IsWorklist      the members done and those pending, of a search from a start
 --     IsPass      what is reached within a pass over numbers, each of which is added if the step leads to it
 --     IsReachable      a number of a start, or one to which a reachable number leads
@@ -22,20 +22,20 @@ union_over rows s = union_all (map rows (ascending s))
 unfoldable pub leading_to : BitSet → (ℕ → BitSet) → BitSet → BitSet
 leading_to all rows s = retain all (λ b. not (is_disjoint (rows b) s))
 
--- from more, the step leads to no less
+-- from a subset of t, the step leads to a subset of `step t`
 pub record IsMonotone (step : BitSet → BitSet) : Type 0 where
   pub grows : (s t : BitSet) → is_subset s t ≡ true → is_subset (step s) (step t) ≡ true
 
--- the set has all that the step leads to from it
+-- the set has all to which the step leads from this set
 abbrev pub IsClosed : (BitSet → BitSet) → BitSet → Type 0
 IsClosed step s = is_subset (step s) s ≡ true
 
--- the set has the start, and is in each closed set that has the start
+-- the set contains the start, and is a subset of each closed set that contains the start
 pub record IsReached (step : BitSet → BitSet) (start s : BitSet) : Type 0 where
   pub begun : is_subset start s ≡ true
   pub least : (t : BitSet) → is_subset start t ≡ true → IsClosed step t → is_subset s t ≡ true
 
--- the least closed set that has the start
+-- the least closed set that contains the start
 pub record IsLeastClosed (step : BitSet → BitSet) (start s : BitSet) : Type 0 where
   pub begun : is_subset start s ≡ true
   pub closed : IsClosed step s
@@ -47,8 +47,8 @@ pub record IsWorklist (rows : ℕ → BitSet) (start done pending : BitSet) : Ty
   pub apart : is_disjoint done pending ≡ true
   pub followed : is_subset (union_over rows done) (union done pending) ≡ true
 
--- all that is reached now is reached from the start, and all to which the step led before the pass is reached now, but
--- for the numbers that are left
+-- `now` is reached from the start, contains `before`, and has all to which the step leads from `before`, except for the
+-- numbers in `left`
 pub record IsPass (step : BitSet → BitSet) (start before now left : BitSet) : Type 0 where
   pub reached : IsReached step start now
   pub grown : is_subset before now ≡ true

@@ -4,8 +4,8 @@
 --     Counts      how many valid bits are left
 --     Elements      the laws of an enum without fields, from one test of its bits and constants
 --     FixedPoints      unions over the members of a set, monotone steps, and what loops reach by steps
---     FixedPointsOfMany      the same of several sets at once, one in each place of a list
---     Flows      what is in these sets, also where sets flow from place to place
+--     FixedPointsOfMany      the same for several sets at once, one in each place of a list
+--     Flows      what is in the least closed sets, also where sets flow from place to place
 --     Folds      folds of a list with one more item at its end
 --     ManySets      unions and intersections of many sets, by which sets there are
 --     Inferences      what follows by rules that have conditions

@@ -1,6 +1,6 @@
 -- What every `EnumSet` guarantees about the value of its representation.
---     IsHeld      the members of this value are valid bits, it is a value of its type, and it is the one that
---         represents its set
+--     IsHeld      the value's members are valid bits, it is a value of the representation, and `of_members` leads from
+--         its members back to it
 use Rattle.std.specs.Prelude.{◌≡◌, IsTrue}
 use Rattle.enumset_repr.specs.BitSet.{BitSet, is_subset}
 

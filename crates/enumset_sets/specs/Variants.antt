@@ -1,4 +1,4 @@
--- What a match over bits knows if no arm was taken.
+-- What a proof knows of a match over bits if no arm was taken.
 --     IsNoneOf      a number is not in a list
 use Rattle.std.specs.Prelude.{◌≡◌, ℕ, List, [], ◌∷◌}
 

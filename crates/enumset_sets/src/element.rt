@@ -8,17 +8,17 @@ use enumset_repr::EnumSetTypeRepr;
 
 /// An enum whose variants are the elements of an `EnumSet`. Each variant has a bit of its own.
 ///
-/// It mirrors `EnumSetType` and `EnumSetTypePrivate` of Rust's `enumset`. There a derive implements them; here the
-/// program `enumset_derive` or an author writes the `impl`, and its laws are proved.
+/// The trait mirrors `EnumSetType` and `EnumSetTypePrivate` of Rust's `enumset`. There a derive implements them; here
+/// the program `enumset_derive` or an author writes the `impl`, and its laws are proved.
 pub trait EnumSetType: Copy + Eq {
-    /// The representation of its sets.
+    /// The representation of the sets of these elements.
     type Repr: EnumSetTypeRepr;
 
     // The bit of each value, and the list of the valid bits, one for each variant.
     ghost elements: { Elements Self };
 
-    // The values, in any order. If they are listed and their texts are known, so are the texts of sets. Without the
-    // list, only the text of the empty set is known.
+    // The values, in any order. If the values are listed and their texts are known, contracts know the texts of sets.
+    // Without the list they only know the text of the empty set.
     ghost values: { List Self } = { [] };
 
     ghost ALL_BITS: { Self.Repr };
@@ -28,7 +28,7 @@ pub trait EnumSetType: Copy + Eq {
 
     ghost BIT_WIDTH: { ℕ };
 
-    /// One past the greatest valid bit, or 0 if there is none.
+    /// One past the greatest valid bit, or 0 if no bit is valid.
     const BIT_WIDTH: u32;
 
     ghost VARIANT_COUNT: { ℕ };

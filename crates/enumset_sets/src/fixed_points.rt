@@ -9,7 +9,8 @@ ghost use Rattle.enumset_sets.specs.FixedPoints.{IsLeastClosed, IsMonotone, Lead
 use crate::element::EnumSetType;
 use crate::enum_set::EnumSet;
 
-/// A step from a set to what follows from it at once. From more, no less follows.
+/// A step from a set to what follows from the set at once. What follows from a subset is a subset of what follows from
+/// the set.
 pub trait Step<T: EnumSetType> {
     // What follows from a set.
     ghost step: { Self → BitSet → BitSet };
@@ -18,14 +19,14 @@ pub trait Step<T: EnumSetType> {
     fn step(&self, from: &EnumSet<T>) -> EnumSet<T>
         ensures { result ≡ Self.step self.now from.now };
 
-    // From more, no less follows.
+    // What follows from a subset is a subset of what follows from the set.
     ghost monotone: { (s : Self) → IsMonotone (step s) };
 }
 
-/// Returns the least set that has the start and all that follows from the set itself: the least fixed point of the step
-/// over the start.
+/// Returns the least set that has the members of `start` and all that follows from the returned set: the least fixed
+/// point of the step over the start.
 ///
-/// It takes at most one step more than there are variants outside the start.
+/// The call takes at most one step more than there are variants outside the start.
 pub fn least_closed<T: EnumSetType, S: Step<T>>(start: EnumSet<T>, step: &S) -> EnumSet<T>
     ensures { IsLeastClosed (S.step step.now) start result }
 {

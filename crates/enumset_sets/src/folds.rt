@@ -39,7 +39,8 @@ impl<T: EnumSetType> IntoIterator for EnumSet<T> {
     }
 }
 
-/// Adds every element that an iterator yields. The iterator must end. The call takes no memory and always returns `Ok`.
+/// Adds every element that an iterator yields. The iterator must end. The call allocates nothing and always returns
+/// `Ok`.
 impl<T: EnumSetType> Extend<T> for EnumSet<T> {
     ghost extend_gives = { λ s ts r. r ≡ set.union s (set.from_list (map T.elements.bit ts)) };
 
@@ -58,8 +59,8 @@ impl<T: EnumSetType> Extend<T> for EnumSet<T> {
     }
 }
 
-/// The set of the elements that an iterator yields. The iterator must end. The call takes no memory and always returns
-/// `Ok`.
+/// The set of the elements that an iterator yields. The iterator must end. The call allocates nothing and always
+/// returns `Ok`.
 impl<T: EnumSetType> FromIterator<T> for EnumSet<T> {
     type Alloc = Global;
 
@@ -104,7 +105,7 @@ impl<T: EnumSetType, const N: usize> From<[T; N]> for EnumSet<T> {
     }
 }
 
-/// The set of the elements of a slice.
+/// Returns the set of the elements of a slice.
 fn of_slice<T: EnumSetType>(values: &[T]) -> EnumSet<T>
     ensures { result ≡ set.from_list (map T.elements.bit values.now) }
 {

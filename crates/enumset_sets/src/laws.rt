@@ -16,8 +16,8 @@ use crate::raw::learn_valid_bits;
 use enumset_repr::InjectiveHash;
 use std::hash::Hash;
 
-/// Each valid bit is the bit of a value. So a test passes for some member of a set of valid bits exactly if it passes for
-/// the bit of some element of the set, and for all members exactly if it passes for the bits of all its elements.
+/// Each valid bit is the bit of a value. So a test passes for some member of a set of valid bits exactly if it passes
+/// for the bit of some element of the set, and for all members exactly if it passes for the bits of all its elements.
 ///
 /// At run time the call makes each value once, from its bit.
 pub fn bits_have_values<T: EnumSetType>()
@@ -95,7 +95,7 @@ pub fn all_words_and_back<T: EnumSetType>(set: &EnumSet<T>)
 }
 
 /// Sets that feed a hasher the same data are equal, so sets that differ feed different data. This holds over each
-/// representation that is [`InjectiveHash`], as all of this library are.
+/// representation that is [`InjectiveHash`], as each of this library is.
 pub fn hash_is_injective<T: EnumSetType>()
 where
     T::Repr: InjectiveHash,

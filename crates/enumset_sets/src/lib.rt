@@ -1,7 +1,7 @@
 //! Sets of the variants of an enum, kept as values of a representation.
 //!
-//! [`EnumSet`] is proved once, over every [`EnumSetType`] and every representation of `enumset_repr`, and names none of
-//! them. Contracts see a set as the finite set of its members' bit numbers.
+//! [`EnumSet`] names no element type and no representation: it is proved once, over every [`EnumSetType`] and every
+//! `EnumSetTypeRepr` of `enumset_repr`. Contracts see a set as the finite set of its elements' bits.
 #![tactic(auto)]
 
 mod chains;

@@ -14,7 +14,7 @@ use crate::element::EnumSetType;
 use crate::enum_set::EnumSet;
 
 /// Tells the proof that a set has no member at or past a width, if the representation has no such bit or every member
-/// is below it. It does nothing at run time.
+/// is below the width. The call does nothing at run time.
 #[inline]
 #[tactic(auto, using(crate::specs::Laws::Conversions::conversions))]
 fn learn_fits<T: EnumSetType>(set: &EnumSet<T>, width: u32)

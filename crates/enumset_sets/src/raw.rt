@@ -26,20 +26,20 @@ pub fn new<T: EnumSetType>(repr: T::Repr) -> EnumSet<T>
     EnumSet::of_repr(repr)
 }
 
-/// Returns the value that represents the set of the valid bits of an element type. They are below the width. It is
-/// `ALL_BITS`, with what a proof needs of it. It has no counterpart in Rust's `enumset`.
+/// Returns `ALL_BITS`, the value that represents the set of the valid bits of an element type. A proof learns from the
+/// call that these bits are below the width. Rust's `enumset` has no such call.
 pub fn valid_repr<T: EnumSetType>() -> T::Repr
     ensures members { T.Repr.members result ≡ valid_bits T.elements }
     ensures is_value { T.Repr.is_value result }
     ensures within { IsTrue (is_subset (valid_bits T.elements) (below T.Repr.WIDTH)) }
 {
     let all = T::ALL_BITS;
-    // Each member of a value is below the width.
+    // Tells the proof that each member of the value is below the width.
     all.learn_is_value();
     all
 }
 
-/// Tells the proof that the valid bits are below the width, which is a `u32`. It does nothing at run time.
+/// Tells the proof that the valid bits are below the width, which is a `u32`. The call does nothing at run time.
 #[inline]
 pub(crate) fn learn_valid_bits<T: EnumSetType>()
     ensures within { IsTrue (is_subset (valid_bits T.elements) (below T.Repr.WIDTH)) }
@@ -49,7 +49,8 @@ pub(crate) fn learn_valid_bits<T: EnumSetType>()
     let _width = T::Repr::WIDTH;
 }
 
-/// The set that a value represents. Its members must be valid. The valid bits are below the width.
+/// Returns the set that a value represents. Each member must be a valid bit. A proof learns that the valid bits are
+/// below the width.
 pub(crate) fn exact<T: EnumSetType>(repr: T::Repr) -> EnumSet<T>
     requires { IsTrue (is_subset (T.Repr.members repr) (valid_bits T.elements)) }
     ensures members { result ≡ T.Repr.members repr }
@@ -59,7 +60,8 @@ pub(crate) fn exact<T: EnumSetType>(repr: T::Repr) -> EnumSet<T>
     EnumSet::of_repr(repr)
 }
 
-/// The set of the valid members of a value. The valid bits are below the width.
+/// Returns the set of the members of a value that are valid bits. A proof learns that the valid bits are below the
+/// width.
 pub(crate) fn truncated<T: EnumSetType>(repr: T::Repr) -> EnumSet<T>
     ensures members { result ≡ intersection (T.Repr.members repr) (valid_bits T.elements) }
     ensures within { IsTrue (is_subset (valid_bits T.elements) (below T.Repr.WIDTH)) }
@@ -67,7 +69,7 @@ pub(crate) fn truncated<T: EnumSetType>(repr: T::Repr) -> EnumSet<T>
     EnumSet::of_repr(repr & valid_repr::<T>())
 }
 
-/// The set that a value represents, if all its members are valid, else `None`.
+/// Returns the set that a value represents, if each member is a valid bit, else `None`.
 pub(crate) fn validated<T: EnumSetType>(repr: T::Repr) -> Option<EnumSet<T>>
     ensures valid { IsSome result
         ↔ IsTrue (is_subset (T.Repr.members repr) (valid_bits T.elements)) }
@@ -80,8 +82,8 @@ pub(crate) fn validated<T: EnumSetType>(repr: T::Repr) -> Option<EnumSet<T>>
     }
 }
 
-/// The set that a value represents, if there is a value and all its members are valid, else `None`. The valid bits are
-/// below the width.
+/// Returns the set that a value represents, if there is a value and each member is a valid bit, else `None`. A proof
+/// learns that the valid bits are below the width.
 pub(crate) fn validated_low<T: EnumSetType>(taken: Option<T::Repr>) -> Option<EnumSet<T>>
     ensures valid { MatchOption taken (result ≡ None) (λ repr.
         (IsSome result ↔ IsTrue (is_subset (T.Repr.members repr) (valid_bits T.elements)))

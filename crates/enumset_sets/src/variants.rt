@@ -1,7 +1,7 @@
 //! Functions that tell a proof that a match over bits has an arm for each variant.
 //!
-//! A match over at most 32 bits needs none of them. They do nothing at run time, and have no counterpart in Rust's
-//! `enumset`.
+//! A match over at most 32 bits needs none of these functions. They do nothing at run time. Rust's `enumset` has
+//! nothing like them.
 
 ghost use Rattle.std.specs.Prelude.{◌<◌, ◌++◌, IsTrue};
 ghost use Rattle.std.specs.List.{range_with_len};
@@ -15,14 +15,14 @@ pub fn is_below(bit: u32, count: u32)
     ensures { bit < count }
 {}
 
-/// Tells the proof that a number in a list equals one of its numbers.
+/// Tells the proof that a number in a list does not differ from every number of the list.
 #[inline]
 pub fn is_listed(bit: u32, bits: &[u32])
     requires { IsTrue (is_in bit bits.now) }
     ensures { IsNoneOf bit bits.now → ⊥ }
 {}
 
-/// Tells the proof that a number in two lists that is not in the first is in the second.
+/// Tells the proof that a number in two joined lists that is not in the first list is in the second.
 #[inline]
 pub fn is_listed_later(bit: u32, first: &[u32], later: &[u32])
     requires listed { IsTrue (is_in bit (first.now ++ later.now)) }

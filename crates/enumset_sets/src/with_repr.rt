@@ -1,4 +1,4 @@
-//! Element types whose representation has at most 128 bits, and their sets to and from its values.
+//! Element types whose representation has at most 128 bits, and the conversions between their sets and its values.
 
 ghost use Rattle.std.specs.Prelude.{◌≡◌, ◌≤◌, ◌↔◌, IsTrue, IsSome, IfSome};
 ghost use Rattle.enumset_repr.specs.BitSet as set;
@@ -10,8 +10,8 @@ use crate::raw::{truncated, validated};
 
 /// An element type whose sets each fit a `u128`: its representation has at most 128 bits.
 ///
-/// It mirrors `EnumSetTypeWithRepr` of Rust's `enumset`, except that `Repr` is an item of [`EnumSetType`] here, and
-/// that Rust's derive implements the trait only for an integer that the option `repr` names.
+/// The trait mirrors `EnumSetTypeWithRepr` of Rust's `enumset`, except that `Repr` is an item of [`EnumSetType`] here,
+/// and that Rust's derive implements the trait only for an integer that the option `repr` names.
 pub trait EnumSetTypeWithRepr: EnumSetType {
     // The representation has at most 128 bits.
     ghost narrow: { Self.Repr.WIDTH ≤ 128 };
@@ -34,8 +34,7 @@ impl<T: EnumSetTypeWithRepr> EnumSet<T> {
         Self::of_repr(repr)
     }
 
-    /// Returns the set that a value represents, if every bit of it is valid, which means that a variant has it, else
-    /// `None`.
+    /// Returns the set that a value represents, if every bit of the value is valid (the bit of a variant), else `None`.
     pub fn try_from_repr(repr: T::Repr) -> Option<EnumSet<T>>
         ensures valid { IsSome result
             ↔ IsTrue (set.is_subset (T.Repr.members repr) (valid_bits T.elements)) }
@@ -51,7 +50,7 @@ impl<T: EnumSetTypeWithRepr> EnumSet<T> {
         truncated(repr)
     }
 
-    /// Returns the set that a value represents. Every bit of it must be valid, as for
+    /// Returns the set that a value represents. Every bit of the value must be valid, as for
     /// [`from_repr`](EnumSet::from_repr). Rust's call is unsafe.
     pub fn from_repr_unchecked(repr: T::Repr) -> EnumSet<T>
         requires valid { IsTrue (set.is_subset (T.Repr.members repr) (valid_bits T.elements)) }

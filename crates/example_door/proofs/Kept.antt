@@ -1,7 +1,7 @@
 -- When a transition keeps a rule.
---     tried      a rule that is kept from a state between what is required and another state is kept from that one, if
---         the two agree about its flags
---     kept_iff      a rule that is kept from the four states that are tried is kept from every state, and the other way
+--     tried      a rule is kept from a state exactly if it is kept from a part of it that has what is required and the
+--         same flags of the rule
+--     kept_iff      a rule is kept from every state exactly if it is kept from the four states that are tried
 --     kept_all      a rule that each transition keeps is kept by a list of them
 use Rattle.std.proofs.Common.{◌≡◌, ℕ, Bool, true, false, List, [], ◌∷◌, refl, arith, ◌↔◌, All}
 use Rattle.std.proofs.lemmas.Bool.{and_parts, and_from}

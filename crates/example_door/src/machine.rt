@@ -83,7 +83,8 @@ impl Transition {
 
     /// Whether the transition keeps a rule: if the rule holds in a state, it holds after the step.
     ///
-    /// Only the two flags of the rule matter, so it tries the states with what is required and any of the two.
+    /// Only the two flags of the rule matter, so it tries the states with what is required and any of the two. The
+    /// program does not call it: it carries the theorem that these four states decide about all states.
     #[tactic(auto, using(crate::proofs::Kept::kept_iff))]
     pub fn keeps(&self, rule: Rule) -> bool
         ensures { IsTrue result ↔ Keeps rule self.now }
@@ -117,6 +118,8 @@ impl Transition {
 }
 
 /// The state after transitions in turn. A transition that may not be taken changes nothing.
+///
+/// The program does not call it. It carries the theorem that a rule which each transition keeps still holds at the end.
 pub fn run(start: EnumSet<Flag>, transitions: &[Transition]) -> EnumSet<Flag>
     ensures steps { result ≡ after_all transitions.now start }
     ensures kept { (rule : Rule) → All (Keeps rule) transitions.now → holds rule start ≡ true →

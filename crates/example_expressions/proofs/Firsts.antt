@@ -1,5 +1,5 @@
 -- The kinds with which a part can begin are those at the parts that are reachable from it.
---     reachable_begins      a kind is at a reachable part exactly if the part that it began with can begin with it
+--     reachable_begins      a rule of a reachable part begins with a kind exactly if the whole can begin with it
 --     sum_begins      the kinds with which a sum can begin
 use Rattle.std.proofs.Common.{◌≡◌, ◌==◌, ℕ, true, List, [], ◌∷◌, map, refl, sym, ap, ◌∙◌, true≢false, arith, ◌↔◌, IsTrue, inl, inr}
 use Rattle.std.proofs.lemmas.Bool.{or_cases}
@@ -58,7 +58,7 @@ module _ (whole : Part) where
     λ begins. down kind whole (at_start (grind (arith, members, nat_tests))) begins,
   )
 
--- in the end each rule begins with an operand
+-- a part can begin only with a kind with which a rule of an operand begins
 begins_operand : (part : Part) (kind : ℕ) → CanBegin part kind → is_in kind (map bit (kinds_at Operand)) ≡ true
 begins_operand Operand kind (at_once is) = is
 begins_operand Sum kind (at_once is) = absurd (true≢false (sym is))

@@ -40,7 +40,8 @@ accepts-expression (joined {ks} {ls} op e is f) depth rest =
     ap (accepts Operand depth) (append_assoc ks (op ∷ ls) rest) ∙ accepts-expression e depth (op ∷ (ls ++ rest)) ∙ operator op depth (ls ++ rest) is ∙ accepts-expression f depth rest
 accepts-expression (grouped {ks} e) depth rest = ap (accepts Operand (suc depth)) (append_assoc ks (Close ∷ []) rest) ∙ accepts-expression e (suc depth) (Close ∷ rest)
 
--- after any expression it makes a longer one, up to its closing parenthesis, and so on outwards
+-- these kinds go on from any expression to a longer one, up to the parenthesis that closes it, and from there outwards
+-- in the same way
 Rest : ℕ → List Kind → Type 0
 Rest zero ks = ks ≡ []
 Rest (suc depth) ks = (e : List Kind) → IsExpression e → (f : List Kind) × (tail : List Kind) × (e ++ ks ≡ f ++ closing depth ∷ tail) × IsExpression f × Rest depth tail
@@ -109,7 +110,7 @@ closes_open r h = deep (place_after r.last) r.depth (sym (comes r Close) ∙ h) 
   deep Operator (suc depth) h = omega arith
   deep _ _ h = absurd (true≢false (sym h))
 
--- the kinds before a place, the one there and more are all kinds and the end
+-- the kinds before a place and the one there begin the list of all kinds and the end
 front : (ks : List Kind) (i : ℕ) → i ≤ length ks → (more : List Kind) × ((take i ks ++ slice_index_or ks i End ∷ []) ++ more ≡ ks ++ End ∷ [])
 front [] zero h = ([], refl)
 front (k ∷ ks) zero h = (ks ++ End ∷ [], refl)

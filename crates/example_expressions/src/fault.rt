@@ -16,11 +16,17 @@ pub struct Fault {
 /// Why a line has no value.
 #[derive(Clone, Copy, Debug)]
 pub enum Reason {
+    /// This character begins no token.
     NoToken(char),
+    /// A number does not fit 64 bits.
     LargeNumber,
+    /// A token, or the end, comes where others were expected.
     Unexpected(Unexpected),
+    /// A divisor is 0.
     ZeroDivisor,
+    /// A value on the way does not fit 64 bits.
     LargeValue,
+    /// Memory ran out.
     OutOfMemory,
 }
 

@@ -1,3 +1,5 @@
+//! When houses are open.
+
 ghost use Rattle.std.specs.Prelude.{◌≡◌};
 ghost use Rattle.enumset.specs.Sets as set;
 ghost use Rattle.example_months.specs.Months.{bit};

@@ -33,7 +33,7 @@ request_right users words name more user asked cut known read = rw (cut, known, 
 pub request_wrong : (users : List ℕ → Option User) (words : List (List ℕ)) (name : List ℕ) (more : List (List ℕ)) (user : User) (trouble : Trouble) → words ≡ name ∷ more → users name ≡ Some user → rights_in empty more ≡ Err trouble → request_in users words ≡ Err trouble
 request_wrong users words name more user trouble cut known read = rw (cut, known, read) refl
 
--- a fault for a request that cannot be read
+-- a fault is no answer
 pub not_answered : {A E : Type 0} (r : Result A E) → IsErr r → IsOk r ↔ (false ≡ true)
 not_answered (Ok a) err = (λ ok. err, λ no. refl)
 not_answered (Err e) err = (λ no. no, λ no. no)

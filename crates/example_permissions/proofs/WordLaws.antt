@@ -43,7 +43,7 @@ words_of-first word (b ∷ []) rest some none (white, short, last) =
     ∙ words_of-part word (slice_split is_ascii_whitespace rest) some
 words_of-first word (b ∷ c ∷ sep) rest some none (white, short, last) = absurd (omega arith)
 
--- what a step of the words of a text says
+-- a step over the words of a text: its first word, and the words of what is left
 pub words_step : (s t : _) (word : Bor (List ℕ)) → split_ascii_whitespace_steps s (Some word) t → words_of (split_ascii_whitespace_text s) ≡ word.now ∷ words_of (split_ascii_whitespace_text t)
 words_step s t word (some, none, short, (gap, sep, text, white, last)) =
     ap words_of text ∙ words_of-skip_all gap _ (recursion_from_All (λ b. is_ascii_whitespace b ≡ true) gap white) ∙ words_of-first word.now sep _ some none last

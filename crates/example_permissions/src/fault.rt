@@ -7,13 +7,19 @@ use std::{fmt, io};
 /// Why a text is not a policy, or not a request.
 #[derive(Debug, Drop)]
 pub enum Fault {
+    /// The policy could not be read from its file, or memory ran out.
     Io(io::Error),
+    /// The policy is not JSON, or memory ran out.
     Json(serde_json::Error),
+    /// The policy has no object of this name.
     NoObject(&'static str),
+    /// This name is not that of a role.
     NoRole(String),
+    /// The policy has no user of this name.
     NoUser(String),
+    /// This name is not that of a right.
     NoRight(String),
-    /// Why a list is not a set of roles or rights, and whose it is.
+    /// Which list is not a set of roles or of rights, whose it is, and why.
     List(&'static str, String, JsonFault),
 }
 

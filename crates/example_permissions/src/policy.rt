@@ -37,6 +37,8 @@ pub fn add_grant(grants: &mut Vec<Grant>, grant: Grant) -> Result<(), AllocError
     Ok(())
 }
 
+// The program reads its users from a policy and never changes them. These calls carry the theorems `never_less` and
+// `never_more`.
 impl User {
     /// Gives the user a role. All that was allowed still is.
     #[tactic(auto, using(crate::proofs::Allowed::on_roles))]

@@ -26,8 +26,8 @@ pub struct Policy {
 }
 
 impl Policy {
-    /// The policy of a JSON text. The fault is of the first part that is wrong, or that the text is not JSON, or that
-    /// memory ran out.
+    /// The policy of a JSON text. The fault says what is wrong with the first part that is wrong, that the text is not
+    /// JSON, or that memory ran out.
     pub fn from_json(alloc: Global, text: &str) -> Result<Policy, Fault>
         ensures policy { IfOk result (IsPolicyRead (policy_read text.now)) }
         ensures fault { IfErr result (IsFaultOfText (policy_read text.now)) }
@@ -38,8 +38,8 @@ impl Policy {
         Ok(Policy { grants, users })
     }
 
-    /// The decision for a request, such as `ann Read Write`. A line without words is not a request. The fault is an
-    /// unknown name, or that memory ran out where it was copied.
+    /// The decision for a request, such as `ann Read Write`, or `None` for a line without words. The fault has the
+    /// first unknown name, or says that memory ran out while this name was copied.
     pub fn answer(&self, alloc: Global, line: &str) -> Result<Option<Decision>, Fault>
         ensures answer { IfOk result
             (IsAnswerTo self.now (request_in (user_of self.now) (words_of line.now))) }
@@ -66,7 +66,7 @@ impl Policy {
     }
 }
 
-/// The object of a name.
+/// The object that a value has under a name.
 fn object_in<'a>(value: &'a Value, name: &'static str) -> Result<&'a Map<String, Value>, Fault>
     ensures object { IfOk result (λ object. object_in name.now (view value.now)
         ≡ Ok (members_in (members_view object.now.entries))) }

@@ -75,7 +75,7 @@ pub fn may_only_read(granted: EnumSet<Permission>) -> bool
     granted == enum_set!(Permission::Read)
 }
 
-/// The permissions of somebody who may read whatever is shared with them, and change it if they may write.
+/// What is granted, without the permission to delete, and with those to read and to comment.
 pub fn of_editor(granted: EnumSet<Permission>) -> EnumSet<Permission>
     ensures { result ≡ set.insert (set.insert (set.remove granted (permission Permission.Delete))
         (permission Permission.Comment)) (permission Permission.Read) }
@@ -119,7 +119,8 @@ pub fn in_groups(
     (*granted | *also_granted) - (*denied | *also_denied)
 }
 
-/// Permissions that two people changed, merged. Where both changed one, they made it the same.
+/// Permissions that two people changed, merged: the changes of both count. If both changed one, they made the same
+/// change.
 pub fn merged(
     base: EnumSet<Permission>,
     ours: EnumSet<Permission>,

@@ -17,7 +17,7 @@ pub fn raised_since(before: &EnumSet<Alarm>, now: &EnumSet<Alarm>) -> EnumSet<Al
     *now - *before
 }
 
-/// Alarms stay active until they are both cleared and acknowledged.
+/// The active alarms that stay active: those that are not both cleared and acknowledged.
 pub fn latched(
     active: &EnumSet<Alarm>,
     cleared: &EnumSet<Alarm>,
@@ -31,7 +31,7 @@ pub fn latched(
     *active - (*cleared & *acknowledged)
 }
 
-/// Acknowledges an alarm: it moves from the pending ones to the known ones, if it is pending.
+/// Moves an alarm from the pending ones to the known ones if it is pending, and returns whether it was.
 pub fn acknowledge(pending: &mut EnumSet<Alarm>, known: &mut EnumSet<Alarm>, seen: Alarm) -> bool
     requires { set.is_disjoint pending.old known.old ≡ true }
     ensures was_pending { result ≡ set.contains pending.old (alarm seen) }

@@ -6,7 +6,7 @@ ghost use Rattle.enumset.specs.Sets.{valid_bits};
 
 use enumset::{EnumSet, EnumSetType};
 
-/// How many of the needed are missing.
+/// How many of the needed elements are missing.
 pub fn missing_count<T: EnumSetType>(have: &EnumSet<T>, need: &EnumSet<T>) -> usize
     ensures { result + set.len (set.intersection need.now have.now) ≡ set.len need.now }
 {

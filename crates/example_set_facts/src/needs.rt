@@ -47,7 +47,7 @@ pub fn with_needs(from: EnumSet<Feature>) -> EnumSet<Feature>
     reached
 }
 
-/// The same by a call.
+/// The same by the call `reachable`.
 pub fn reachable_needs(from: EnumSet<Feature>) -> EnumSet<Feature>
     ensures { IsLeastClosed (union_over needs) from result }
 {

@@ -67,7 +67,7 @@ pub fn joined<T: EnumSetType>(
     one.union(other.copied())
 }
 
-/// What is left of a part after a second split, together with what the first left.
+/// The elements of a whole that are outside one set, together with those inside it that another lacks.
 pub fn regrouped<T: EnumSetType>(
     whole: &EnumSet<T>,
     one: &EnumSet<T>,

@@ -54,7 +54,7 @@ pub fn agree_but(
     (*one ^ *other).is_subset(*holidays)
 }
 
-/// Books a day. It is booked if it was free and is not a holiday, and nothing changes else.
+/// Books a day if it is free and no holiday, and returns whether it was. Otherwise nothing changes.
 pub fn book(booked: &mut EnumSet<Weekday>, holidays: EnumSet<Weekday>, wanted: Weekday) -> bool
     requires { set.is_disjoint booked.old holidays ≡ true }
     ensures free { result ≡ (not (set.contains holidays (day wanted))

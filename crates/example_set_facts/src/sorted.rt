@@ -11,7 +11,7 @@ ghost use Rattle.enumset.specs.Sets.{number, compare};
 use enumset::{EnumSet, EnumSetType};
 use std::alloc::AllocError;
 
-/// Sorts sets.
+/// Sorts sets, the least first.
 pub fn sort<T: EnumSetType>(sets: &mut Vec<EnumSet<T>>)
     ensures same { IsPermutation sets.old.items sets.new.items }
     ensures sorted { IsSorted compare sets.new.items }

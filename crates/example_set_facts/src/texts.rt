@@ -23,7 +23,7 @@ pub fn title_of(asked: Permission) -> &'static str
     }
 }
 
-/// The permission of a title.
+/// The permission with this title, if there is one.
 pub fn of_title(text: &str) -> Option<Permission>
     ensures { option_map permission result ≡ position (λ t. bytes_eq t text.now) all_titles }
 {

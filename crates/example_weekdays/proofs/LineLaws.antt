@@ -51,6 +51,6 @@ lines-first text line rest some (n, none, after, fits, whole, cut) =
           ∙ (λ i. sym (whole (omega arith)) i ∷ lines (sym (nil_from_length rest (omega arith)) i))
     ]
 
--- what a step of the lines of a text says
+-- a step over the lines of a text: its first line, and the lines of what is left
 pub lines_step : (s t : _) (line : Bor (List ℕ)) → lines_steps s (Some line) t → lines (lines_rest s) ≡ line.now ∷ lines (lines_rest t)
 lines_step s t line (step, _) = lines-first (lines_rest s) line.now (lines_rest t) step.0 step.2

@@ -3,11 +3,14 @@
 use std::alloc::AllocFailed;
 use std::fmt;
 
-/// Why a text is not a list of schedules, and at which line.
+/// Why schedules could not be read. Lines are counted from 1.
 #[derive(Clone, Copy, Debug)]
 pub enum Fault<'a> {
+    /// Memory ran out.
     OutOfMemory,
+    /// This line has no colon.
     NoName(usize),
+    /// This line has this word, which is not a day.
     NoDay(usize, &'a str),
 }
 

@@ -8,8 +8,8 @@ use crate::weekday::Weekday;
 use enumset::{EnumSet, EnumSetNames};
 use std::alloc::Global;
 
-/// The days of each line, such as `ann: Monday Friday`. Empty lines are skipped. The fault is of the first line that is
-/// wrong, or that memory ran out.
+/// The days of each line, such as `ann: Monday Friday`. Empty lines are skipped. The fault is that of the first line
+/// that has one, or says that memory ran out.
 pub fn read_schedules(alloc: Global, text: &str) -> Result<Vec<EnumSet<Weekday>>, Fault<'_>>
     ensures schedules { IfOk result (λ schedules. schedules_in text.now ≡ Ok schedules.items) }
     ensures fault { IfErr result (IsFaultOf (schedules_in text.now)) }
@@ -23,7 +23,7 @@ pub fn read_schedules(alloc: Global, text: &str) -> Result<Vec<EnumSet<Weekday>>
     Ok(schedules)
 }
 
-/// The days after the name.
+/// The days of a line with this number, which follow its first colon.
 fn read_days(line: &str, number: usize) -> Result<EnumSet<Weekday>, Fault<'_>>
     ensures days { IfOk result (λ days. days_in number line.now ≡ Ok days) }
     ensures fault { IfErr result (IsFaultOf (days_in number line.now)) }

@@ -46,6 +46,7 @@ pub fn nearest_day(days: EnumSet<Weekday>, from: Weekday) -> Option<Weekday>
     laws::members_are_valid(&days);
     laws::bits_below(7);
     let mut day = from;
+    // After seven days the week is over.
     for _ in 0..7u8 {
         if days.contains(day) {
             return Some(day);

@@ -1,5 +1,5 @@
-//! Functions over sets whose wrong bodies the checker refuses: `must-fail/` has the bodies. They are in a crate of their
-//! own, since the gate checks the whole crate once more before it tries them.
+//! Functions over sets, for which `must-fail/` has wrong bodies that the checker rejects. They are in a small crate of
+//! their own, since the gate checks a crate once more before it tries the wrong bodies for it.
 #![tactic(auto, using(enumset::specs::Sets::set_laws))]
 
 pub mod access;

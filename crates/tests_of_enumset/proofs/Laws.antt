@@ -6,14 +6,14 @@ use Rattle.std.proofs.Common.{◌≡◌, ◌≢◌, ◌≤◌, ◌<◌, ◌↔�
 use Rattle.enumset.specs.Sets as set
 use Rattle.enumset.specs.Sets.{BitSet, contains, is_subset, is_disjoint, is_same, union, intersection, difference, symmetric_difference, insert, remove, retain, only, empty, below, len, ascending, least, greatest, number, sum_over, image, union_all, from_list, is_in, is_distinct}
 
--- a set that a subset extends, inside `Some`
+-- a set with a subset of it added is the set itself, here inside `Some`
 extended : (s t : BitSet) → is_subset s t ≡ true → Some (union s t) ≡ Some t
 extended s t within = ap (λ r. Some r) ((set.is_subset_iff_union s t).0 within)
 
 -- ---- induction
 
 module _ (f : ℕ → ℕ) (g : BitSet → ℕ) (none : g empty ≡ 0) where
-  -- what an absent number changes makes a function of sets a sum
+  -- a function of sets is a sum if an absent number, once inserted, adds its own share
   pub is_sum : ((s : BitSet) (b : ℕ) → contains s b ≡ false → g (insert s b) ≡ g s + f b) → (s : BitSet) → g s ≡ sum_over f s
   is_sum more = set.set_induction (λ s. g s ≡ sum_over f s) (none ∙ sym (set.sum_empty f))
       (λ s b absent earlier. omega (arith, more s b absent, earlier, set.sum_insert f s b absent))

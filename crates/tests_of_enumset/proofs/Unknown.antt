@@ -23,7 +23,7 @@ as_str_tells (number n) s e = absurd (cc)
 as_str_tells (array ds) s e = absurd (cc)
 as_str_tells (object ms) s e = absurd (cc)
 
--- the value at the place of the first string that passes a test; places are counted from a number
+-- at this place, counted from a number, the items have a string
 Found : Items → ℕ → ℕ → Type 0
 Found items from place = (k : ℕ) × (place ≡ from + k) × IsSome (option_and_then as_str (get_item k items))
 

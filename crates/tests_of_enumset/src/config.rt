@@ -160,7 +160,7 @@ fn insert_flag<T: EnumSetNames>(
     Ok(put(members, alloc, "flags", list)?)
 }
 
-// Reads a list of flags. The fault for an unknown name has this name.
+/// Reads a list of flags. The fault for an unknown name has this name.
 #[tactic(auto, using(crate::proofs::Unknown::unknown_texts))]
 fn read_flags<T: EnumSetNames>(alloc: Global, list: &Value) -> Result<EnumSet<T>, ConfigFault>
     ensures read { IfOk result (λ flags.

@@ -1,6 +1,6 @@
-//! Macros in functions with contracts, so that the check refuses a macro with another meaning: the macros of sets, over
+//! Macros in functions with contracts, so that the check rejects a macro with another meaning: the macros of sets, over
 //! sets of any enum with three operands, and over mixed sets with two; and `variant_of!`, with as many variants as it
-//! takes without bits, and with more bits than one proof can hold.
+//! takes without bits, and with more than the 64 bits that one step of its proof is about.
 
 ghost use Rattle.std.specs.Prelude.{◌≡◌, ◌∷◌, [], IsTrue};
 ghost use Rattle.std.specs.List.{range_with_len};

@@ -16,6 +16,7 @@ use enumset_sets::{EnumSet, EnumSetType, laws, raw};
 use enumset_worked::{Letters, Marks, Wide};
 use std::process::Abort;
 
+/// The set of two elements.
 pub fn two_of<T: EnumSetType>(a: T, b: T) -> EnumSet<T> {
     EnumSet::only(a).union(EnumSet::only(b))
 }
@@ -103,7 +104,8 @@ fn letters_in_place(rt: HostRuntime) {
     expect(&rt, "retain, by another set", set.as_u8(), 8);
 }
 
-// No clause says what a closure that changes a variable leaves in it. The digits are the bits of the calls, each plus one.
+// No clause says what a closure that changes a variable leaves in it. The digits are the bits of the calls, each plus
+// one.
 #[test]
 fn retain_calls_once_for_each_letter(rt: HostRuntime) {
     let (mut set, mut calls) = (some_letters(), 0u32);

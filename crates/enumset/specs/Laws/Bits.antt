@@ -24,6 +24,8 @@ in_range q a (suc n) = ap (λ t. (q == a) || t) (in_range q (a + 1) n) ∙ grind
 pub bits_in_order : (n : ℕ) → from_list (range_with_len 0 n) ≡ below n
 bits_in_order n = same_set _ _ (λ q. contains_from_list (range_with_len 0 n) q ∙ in_range q 0 n ∙ grind (arith, nat_tests) ∙ sym (contains_below n q))
 
+-- what it proves: that a set and its number determine each other
 pub ruleset numbers = (bits_number, number_bits, bits_within, number_within, bits_tell)
 
+-- what it proves: which set a number, words or a list is, by a list of its bits
 pub ruleset listed = (bits_listed, words_listed, contains_from_list, contains_ascending)

@@ -87,7 +87,7 @@ items-back : (xs : List ℕ) (x : ℕ) (es : List End) → items (xs ++ x ∷ []
 unfolding answers items_among
 items-back xs x es = rw (last_push xs x, without_last_push xs x) refl
 
--- each item that came is in the list
+-- each item that a step yielded is in the list
 came : (xs : List ℕ) (es : List End) (q : ℕ) → is_in q (items xs es) ≡ true → is_in q xs ≡ true
 unfolding answers items_among
 came xs [] q one = absurd (true≢false (sym one))

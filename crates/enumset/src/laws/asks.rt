@@ -1,8 +1,10 @@
-//! Laws of the steps of one iterator: what they yield and leave, and how many asks they make, which are the counted
-//! reads of a word.
+//! Laws of the steps of one iterator: what the steps yield and leave, and how many asks (counted reads of a word) they
+//! make.
 //!
-//! Unlike the other laws, these calls take the steps that they are about. They take no memory. How often an iterator
+//! Unlike the other laws, these calls take the steps that they are about. They allocate nothing. How often an iterator
 //! asks is known over `ArrayRepr`; a representation of your own may count no ask.
+//!
+//! Each call over a set has a twin over a mixed set: a change of one changes the other.
 
 ghost use Rattle.std.specs.Prelude.{◌≡◌, ◌+◌, ◌≤◌, length, map, option_map};
 ghost use Rattle.enumset_repr.specs.Asks.{BoundsAsks};
@@ -15,7 +17,7 @@ use enumset_array::End;
 use enumset_mixed::{MixedEnumSet, MixedEnumSetIter, MixedValue};
 use enumset_sets::{EnumSet, EnumSetIter, EnumSetType, EnumSetTypeWithRepr};
 
-/// One step of an iterator from an end.
+/// Takes one step of an iterator from an end, and returns the element that the iterator yields.
 fn step<T: EnumSetType>(iter: &mut EnumSetIter<T>, end: End) -> Option<T>
     ensures answer { option_map T.elements.bit result ≡ answer end iter.old.items }
     ensures items { iter.new.items ≡ without_answer end iter.old.items }
@@ -28,7 +30,7 @@ fn step<T: EnumSetType>(iter: &mut EnumSetIter<T>, end: End) -> Option<T>
     }
 }
 
-/// One step of an iterator over a mixed set from an end.
+/// Takes one step of an iterator over a mixed set from an end, and returns the member that the iterator yields.
 fn mixed_step<T: EnumSetTypeWithRepr>(
     iter: &mut MixedEnumSetIter<T>,
     end: End,

@@ -10,7 +10,7 @@ use enumset_sets::EnumSetType;
 use enumset_sets::raw::valid_repr;
 
 /// The valid bits are the bits in the list of the element type, which has each bit once, and the bits of `ALL_BITS`.
-/// They are below the width of the representation.
+/// Valid bits are below the width of the representation.
 pub fn valid_bits_listed<T: EnumSetType>()
     ensures listed { (bit : ℕ)
         → contains (valid_bits T.elements) bit ≡ is_in bit T.elements.bit_list }

@@ -43,7 +43,8 @@ pub fn valid_before_invalid<T: EnumSetType + Ord>()
 {}
 
 /// Mixed sets that feed a hasher the same data are equal, so sets that differ feed different data. This holds over each
-/// representation that is [`InjectiveHash`], as all of this library are. The members of a mixed set are below the width.
+/// representation that is [`InjectiveHash`], as each of this library is. The members of a mixed set are below the
+/// width.
 pub fn mixed_hash_is_injective<T: EnumSetTypeWithRepr>()
 where
     T::Repr: InjectiveHash,

@@ -57,8 +57,9 @@ pub fn older_reader_of_names<Old: EnumSetNames, New: EnumSetNames>(
     number_and_back(set);
 }
 
-/// A mixed set of one element type keeps all bits that a writer of another type wrote as words, if they are below its
-/// width. The words that it then writes are read by the other type as the set that was first written.
+/// A mixed set of one element type keeps all bits that a writer of another type wrote as words, if they are below the
+/// width of the mixed set's representation. If the mixed set is then written as words, the other type reads these as
+/// the set that was first written.
 pub fn carried_along<Old: EnumSetTypeWithRepr, New: EnumSetType>(
     set: &EnumSet<New>,
     past: Unknown,

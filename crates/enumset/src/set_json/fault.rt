@@ -11,7 +11,7 @@ pub enum JsonFault {
     TooWide,
     /// The value is not a JSON number.
     NotANumber,
-    /// The parser does not hold the number as a whole number from 0 to 2^64 - 1.
+    /// The number is not one that the parser keeps as a whole number from 0 to 2^64 - 1.
     NotWhole,
     /// A bit of the number or of the words is at or past the width.
     OutOfRange,
@@ -33,7 +33,7 @@ pub enum JsonFault {
     UnknownName(usize),
     /// The string is not JSON. The parser found the error at this line, counted from 1.
     NotJson(usize),
-    /// Memory was refused.
+    /// An allocation failed.
     OutOfMemory,
 }
 

@@ -14,8 +14,8 @@ use enumset_sets::EnumSet;
 use serde_json::Value;
 use std::alloc::Global;
 
-/// Returns the names of the set's members, in ascending order of their bits. The only fault is
-/// [`JsonFault::OutOfMemory`]. It is the form of `serialize_repr = "list"` of Rust's `enumset`.
+/// Returns the array of the names of the set's members, in ascending order of their bits. The only fault is
+/// [`JsonFault::OutOfMemory`]. Rust's `enumset` writes this form under `serialize_repr = "list"`.
 pub fn to_list<T: EnumSetNames>(alloc: Global, set: &EnumSet<T>) -> Result<Value, JsonFault>
     ensures value { IfOk result (λ value.
         view value ≡ list_value (names_of T.elements T.names) set.now) }
@@ -30,9 +30,9 @@ pub fn to_list<T: EnumSetNames>(alloc: Global, set: &EnumSet<T>) -> Result<Value
 
 /// Returns the set of the names of an array of strings, in any order. A name may be repeated.
 ///
-/// The errors are [`JsonFault::NotAnArray`], [`JsonFault::NotAText`] of the first element that is not a string and,
-/// where unknown names are refused, [`JsonFault::UnknownName`] of the first, tested in this order. It takes no memory.
-/// It reads the form of `serialize_repr = "list"` of Rust's `enumset`.
+/// The faults are [`JsonFault::NotAnArray`], [`JsonFault::NotAText`] of the first element that is not a string and,
+/// where unknown names are refused, [`JsonFault::UnknownName`] of the first such name, tested in this order. The call
+/// allocates nothing. Rust's `enumset` reads this form under `serialize_repr = "list"`.
 pub fn from_list<T: EnumSetNames>(value: &Value, unknown: Unknown) -> Result<EnumSet<T>, JsonFault>
     ensures { result ≡ set_of_list (names_of T.elements T.names) unknown (view value.now) }
 {

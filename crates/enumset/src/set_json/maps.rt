@@ -15,7 +15,7 @@ use serde_json::{Map, Value, put};
 use std::alloc::Global;
 
 /// Returns an object with the name of each of the set's members and `true`. The only fault is
-/// [`JsonFault::OutOfMemory`]. It is the form of `serialize_repr = "map"` of Rust's `enumset`.
+/// [`JsonFault::OutOfMemory`]. Rust's `enumset` writes this form under `serialize_repr = "map"`.
 pub fn to_map<T: EnumSetNames>(alloc: Global, set: &EnumSet<T>) -> Result<Value, JsonFault>
     ensures value { IfOk result (λ value.
         view value ≡ map_value (names_of T.elements T.names) set.now) }
@@ -30,10 +30,10 @@ pub fn to_map<T: EnumSetNames>(alloc: Global, set: &EnumSet<T>) -> Result<Value,
 
 /// Returns the set of the names that have `true` in an object of booleans. A name with `false` is left out.
 ///
-/// The errors are [`JsonFault::NotAnObject`], [`JsonFault::NotABoolean`] of the first name whose value is not a
-/// boolean and, where unknown names are refused, [`JsonFault::UnknownName`] of the first, with `true` or with `false`,
-/// tested in this order. The first is the first in the order of the names' bytes. It takes no memory. It reads the form
-/// of `serialize_repr = "map"` of Rust's `enumset`.
+/// The faults are [`JsonFault::NotAnObject`], [`JsonFault::NotABoolean`] of the first name whose value is not a boolean
+/// and, where unknown names are refused, [`JsonFault::UnknownName`] of the first such name, with `true` or with
+/// `false`, tested in this order. The first is the first in the order of the names' bytes. The call allocates nothing.
+/// Rust's `enumset` reads this form under `serialize_repr = "map"`.
 pub fn from_map<T: EnumSetNames>(value: &Value, unknown: Unknown) -> Result<EnumSet<T>, JsonFault>
     ensures { result ≡ set_of_map (names_of T.elements T.names) unknown (view value.now) }
 {

@@ -20,9 +20,9 @@ use enumset_sets::{EnumSetType, EnumSetTypeWithRepr};
 use serde_json::Value;
 use std::alloc::Global;
 
-/// Returns the set's number, unknown bits included. The representation may have 64 bits at most. It takes no memory,
-/// and always succeeds; the allocator and the `Result` are as in the other writers. It is what Rust's `enumset` writes
-/// for a `MixedEnumSet`.
+/// Returns the set's number, unknown bits included. The representation may have 64 bits at most. The call allocates
+/// nothing, and always succeeds; the allocator and the `Result` are as in the other writers. Rust's `enumset` writes
+/// this form for a `MixedEnumSet`.
 pub fn mixed_to_number<T: EnumSetTypeWithRepr>(
     _alloc: Global,
     set: &MixedEnumSet<T>,
@@ -34,21 +34,21 @@ pub fn mixed_to_number<T: EnumSetTypeWithRepr>(
     Ok(Value::from(mixed_number_of(set)))
 }
 
-/// The set's number, unknown bits included.
+/// Returns the set's number, unknown bits included. The representation may have 64 bits at most.
 pub(super) fn mixed_number_of<T: EnumSetTypeWithRepr>(set: &MixedEnumSet<T>) -> u64
     requires { T.Repr.WIDTH ≤ 64 }
     ensures { result ≡ number set.now }
 {
     let repr = set.as_repr();
-    // Each member of a value is below the width.
+    // Tells the proof that each member is below the width.
     repr.learn_is_value();
     repr.to_u64()
 }
 
 /// Returns the set of all bits of a number below two to the representation's width, which may be 64 at most.
 ///
-/// The errors are [`JsonFault::NotANumber`], [`JsonFault::NotWhole`] and [`JsonFault::OutOfRange`], tested in this
-/// order. It takes no memory. It reads what Rust's `enumset` writes for a `MixedEnumSet`.
+/// The faults are [`JsonFault::NotANumber`], [`JsonFault::NotWhole`] and [`JsonFault::OutOfRange`], tested in this
+/// order. The call allocates nothing. Rust's `enumset` reads this form for a `MixedEnumSet`.
 pub fn mixed_from_number<T: EnumSetTypeWithRepr>(
     value: &Value,
 ) -> Result<MixedEnumSet<T>, JsonFault>
@@ -58,7 +58,8 @@ pub fn mixed_from_number<T: EnumSetTypeWithRepr>(
     mixed_set_of(whole_number(value)?)
 }
 
-/// The set of all bits of a number, if it is below two to the representation's width.
+/// Returns the set of all bits of a number, if the number is below two to the representation's width, else
+/// [`JsonFault::OutOfRange`].
 pub(super) fn mixed_set_of<T: EnumSetTypeWithRepr>(
     number: u64,
 ) -> Result<MixedEnumSet<T>, JsonFault>
@@ -71,7 +72,7 @@ pub(super) fn mixed_set_of<T: EnumSetTypeWithRepr>(
 }
 
 /// Returns the set's words of 64 bits, the lowest first, as many as its representation has, unknown bits included. The
-/// only fault is [`JsonFault::OutOfMemory`], and there is none where the representation has no word. Rust's `enumset`
+/// only fault is [`JsonFault::OutOfMemory`], which never comes where the representation has no word. Rust's `enumset`
 /// writes a number of 128 bits instead.
 pub fn mixed_to_words<T: EnumSetTypeWithRepr>(
     alloc: Global,
@@ -88,8 +89,8 @@ pub fn mixed_to_words<T: EnumSetTypeWithRepr>(
 /// Returns the set of all bits of an array of words of 64 bits, the lowest first. There may be any number of them. Bits
 /// at and past the representation's width are left out, or refused.
 ///
-/// The errors are [`JsonFault::NotAnArray`], [`JsonFault::NotAWord`] of the first element that is not one and, where
-/// bits past the width are refused, [`JsonFault::OutOfRange`], tested in this order. It takes no memory. Rust's
+/// The faults are [`JsonFault::NotAnArray`], [`JsonFault::NotAWord`] of the first element that is not a word and, where
+/// bits past the width are refused, [`JsonFault::OutOfRange`], tested in this order. The call allocates nothing. Rust's
 /// `enumset` reads a number of 128 bits instead.
 pub fn mixed_from_words<T: EnumSetTypeWithRepr>(
     value: &Value,
@@ -100,7 +101,8 @@ pub fn mixed_from_words<T: EnumSetTypeWithRepr>(
     kept_below(read_words(value)?, past)
 }
 
-/// The set of the bits below the representation's width, unless there are others and such bits are refused.
+/// Returns the set of the bits below the representation's width, or [`JsonFault::OutOfRange`] if there are others and
+/// such bits are refused.
 pub(super) fn kept_below<T: EnumSetTypeWithRepr>(
     words: WordsRead<T::Repr>,
     past: Unknown,

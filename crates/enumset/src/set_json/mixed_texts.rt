@@ -1,4 +1,4 @@
-//! Mixed sets to and from JSON texts, as numbers and as words.
+//! Mixed sets to and from strings of JSON, as numbers and as words.
 
 ghost use Rattle.std.specs.Prelude.{◌≡◌, ◌≤◌, Some, IfOk, IfErr, string_bytes, decimal};
 ghost use Rattle.enumset_repr.specs.Number.{number};
@@ -56,7 +56,7 @@ pub fn mixed_to_words_text<T: EnumSetTypeWithRepr>(
 }
 
 /// Reads a set from a string of JSON that is a number, as [`mixed_from_number`] reads it from the number. The
-/// representation may have 64 bits at most. It has the faults of [`mixed_from_number`] and two more:
+/// representation may have 64 bits at most. The faults are those of [`mixed_from_number`] and two more:
 /// [`JsonFault::NotJson`] if the string is not JSON, and [`JsonFault::OutOfMemory`], since strings other than whole
 /// numbers below 2^64 are parsed in memory.
 pub fn mixed_from_number_text<T: EnumSetTypeWithRepr>(
@@ -75,8 +75,8 @@ pub fn mixed_from_number_text<T: EnumSetTypeWithRepr>(
 }
 
 /// Reads a set from a string of JSON that is an array of words of 64 bits, as [`mixed_from_words`] reads it from the
-/// array. It has the faults of [`mixed_from_words`] and two more: [`JsonFault::NotJson`] if the string is not JSON, and
-/// [`JsonFault::OutOfMemory`], since strings other than arrays of whole numbers below 2^64 are parsed in memory.
+/// array. The faults are those of [`mixed_from_words`] and two more: [`JsonFault::NotJson`] if the string is not JSON,
+/// and [`JsonFault::OutOfMemory`], since strings other than arrays of whole numbers below 2^64 are parsed in memory.
 pub fn mixed_from_words_text<T: EnumSetTypeWithRepr>(
     alloc: Global,
     text: &str,

@@ -14,16 +14,16 @@ use enumset_sets::EnumSet;
 /// The names that were read so far.
 #[derive(Drop)]
 pub(super) struct NamesRead<T: EnumSetNames> {
-    /// The members that they name.
+    /// The values of the known names that were read as members.
     set: EnumSet<T>,
-    /// The place of the first name that no value has.
+    /// The place of the first name that no value has, if there is one.
     first_unknown: Option<usize>,
     /// The index in the list of all names where the search for the next name begins.
     next: usize,
 }
 
 impl<T: EnumSetNames> NamesRead<T> {
-    /// No name was read.
+    /// Returns the state before any name was read.
     #[inline(always)]
     pub(super) fn new() -> Self
         ensures set { result.set ≡ empty }
@@ -54,7 +54,7 @@ impl<T: EnumSetNames> NamesRead<T> {
         }
     }
 
-    /// The set of the names, unless one is unknown and such names are refused.
+    /// Returns the set of the names, or [`JsonFault::UnknownName`] if a name is unknown and such names are refused.
     #[inline(always)]
     pub(super) fn decided(self, unknown: Unknown) -> Result<EnumSet<T>, JsonFault>
         ensures { result ≡ decided unknown self.first_unknown self.set }

@@ -15,9 +15,9 @@ use enumset_sets::{EnumSet, EnumSetType};
 use serde_json::Value;
 use std::alloc::Global;
 
-/// Returns the set's number, if each member is below the width, else [`JsonFault::TooWide`]. It takes no memory: the
-/// allocator is there because every writer of a value takes one. It is the form of `serialize_repr = "u8"` to `"u64"`
-/// of Rust's `enumset`.
+/// Returns the set's number, if each member is below the width, else [`JsonFault::TooWide`]. The call allocates
+/// nothing: the allocator is there because every writer of a value takes one. Rust's `enumset` writes this form under
+/// `serialize_repr = "u8"` to `"u64"`.
 pub fn to_number<T: EnumSetType>(
     _alloc: Global,
     set: &EnumSet<T>,
@@ -30,7 +30,7 @@ pub fn to_number<T: EnumSetType>(
     Ok(Value::from(number_of(set, width)?))
 }
 
-/// The set's number, if each member is below the width.
+/// Returns the set's number, if each member is below the width, else [`JsonFault::TooWide`].
 pub(super) fn number_of<T: EnumSetType>(
     set: &EnumSet<T>,
     width: JsonWidth,
@@ -48,9 +48,9 @@ pub(super) fn number_of<T: EnumSetType>(
 
 /// Returns the set of the valid bits of a number below two to the width.
 ///
-/// The errors are [`JsonFault::NotANumber`], [`JsonFault::NotWhole`], [`JsonFault::OutOfRange`] and, where unknown bits
-/// are refused, [`JsonFault::UnknownBits`], tested in this order. It takes no memory. It reads the form of
-/// `serialize_repr = "u8"` to `"u64"` of Rust's `enumset`.
+/// The faults are [`JsonFault::NotANumber`], [`JsonFault::NotWhole`], [`JsonFault::OutOfRange`] and, where unknown bits
+/// are refused, [`JsonFault::UnknownBits`], tested in this order. The call allocates nothing. Rust's `enumset` reads
+/// this form under `serialize_repr = "u8"` to `"u64"`.
 pub fn from_number<T: EnumSetType>(
     value: &Value,
     width: JsonWidth,
@@ -62,7 +62,8 @@ pub fn from_number<T: EnumSetType>(
     set_of(whole_number(value)?, width, unknown)
 }
 
-/// The set of the valid bits of a number, if it is below two to the width.
+/// Returns the set of the valid bits of a number. The faults are [`JsonFault::OutOfRange`] if the number is not below
+/// two to the width and, where unknown bits are refused, [`JsonFault::UnknownBits`].
 pub(super) fn set_of<T: EnumSetType>(
     number: u64,
     width: JsonWidth,

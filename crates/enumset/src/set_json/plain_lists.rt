@@ -1,4 +1,4 @@
-//! Texts of lists of names without escapes, written and read without a tree of values.
+//! Strings that are lists of names without escapes, written and read without a tree of values.
 
 ghost use Rattle.std.specs.Prelude.{◌≡◌, ◌==◌, ◌++◌, if◌then◌else◌, IfSome, IsSome, OnOk, length, string_bytes};
 ghost use Rattle.enumset.specs.JsonNames.{list_value, set_of_list};
@@ -14,14 +14,14 @@ use crate::names::EnumSetNames;
 use enumset_sets::EnumSet;
 use std::alloc::{AllocError, Global};
 
-/// A text of names without escapes, or `None` if a name needs one.
+/// A string of names without escapes, or `None` if a name needs an escape.
 pub(super) type TextIfPlain = Result<Option<String>, AllocError>;
 
-/// The list of the members' names, unless one of them needs an escape.
+/// Returns the list of the members' names as a string, or `None` if a name needs an escape.
 pub(super) fn write_plain_list<T: EnumSetNames>(alloc: Global, set: &EnumSet<T>) -> TextIfPlain
     ensures { IsTextIfPlain (list_value (names_of T.elements T.names) set.now) result }
 {
-    // Most names have at most thirteen bytes.
+    // Sixteen bytes for each name: two quotes, a comma, and up to thirteen of its own. Longer names need more room.
     let mut text = String::with_capacity(alloc, set.len().saturating_mul(16))?;
     for element in set.iter() {
         let name = element.name();
@@ -35,7 +35,8 @@ pub(super) fn write_plain_list<T: EnumSetNames>(alloc: Global, set: &EnumSet<T>)
     Ok(Some(text))
 }
 
-/// Begins a text with `first`, or goes on with `later`. It is inlined so that each piece has a known length.
+/// Appends `first` to an empty string, and `later` to any other. The function is inlined so that each piece has a known
+/// length.
 #[inline(always)]
 pub(super) fn push_either(text: &mut String, first: &str, later: &str) -> Result<(), AllocError>
     ensures { OnOk result (string_bytes text.new
@@ -48,7 +49,8 @@ pub(super) fn push_either(text: &mut String, first: &str, later: &str) -> Result
     }
 }
 
-/// The result of reading a list of plain strings, with spaces anywhere between its tokens. No other text is read.
+/// Returns the result of reading a list of plain strings, with spaces anywhere between its tokens, or `None` for any
+/// other string.
 pub(super) fn read_plain_list<T: EnumSetNames>(
     text: &str,
     unknown: Unknown,

@@ -1,4 +1,4 @@
-//! Texts of maps of names without escapes, written and read without a tree of values.
+//! Strings that are maps of names without escapes, written and read without a tree of values.
 
 ghost use Rattle.std.specs.Prelude.{◌≡◌, ◌++◌, ℕ, Bool, List, Ok, IfSome, IsSome};
 ghost use Rattle.std.specs.Option.{IsSomeAnd};
@@ -17,7 +17,7 @@ use crate::names::{EnumSetNames, find_value};
 use enumset_sets::EnumSet;
 use std::alloc::Global;
 
-/// The map of the members' names, unless one of them needs an escape.
+/// Returns the map of the members' names as a string, or `None` if a name needs an escape.
 pub(super) fn write_plain_map<T: EnumSetNames>(alloc: Global, set: &EnumSet<T>) -> TextIfPlain
     ensures { IsTextIfPlain (map_value (names_of T.elements T.names) set.now) result }
 {
@@ -29,11 +29,11 @@ pub(super) fn write_plain_map<T: EnumSetNames>(alloc: Global, set: &EnumSet<T>) 
     text_of_names(alloc, &names)
 }
 
-/// The map of the members' names, unless one of them needs an escape.
+/// Returns the map of sorted names as a string, or `None` if a name needs an escape.
 fn text_of_names(alloc: Global, names: &[&str]) -> TextIfPlain
     ensures { (all : Names) (set : BitSet) → AreMembers all set names.now → IsTextIfPlain (map_value all set) result }
 {
-    // One request for memory is enough: each name has quotes, a colon, `true` and a comma.
+    // One allocation is enough: each name has eight bytes beside its own, two quotes, a colon, `true` and a comma.
     let bytes = names.iter().fold(2usize, |bytes, name| {
         bytes.saturating_add(name.len()).saturating_add(8)
     });
@@ -49,7 +49,7 @@ fn text_of_names(alloc: Global, names: &[&str]) -> TextIfPlain
     Ok(Some(text))
 }
 
-/// The boolean at the front, and what follows it.
+/// Returns the boolean at the front and what follows it, or `None` if no boolean is there.
 #[inline(always)]
 fn split_boolean(bytes: &[u8]) -> Option<(bool, &[u8])>
     ensures whole { IfSome result (λ parts. bytes.now ≡ compact_text (boolean parts.0) ++ parts.1.now) }
@@ -63,7 +63,8 @@ fn split_boolean(bytes: &[u8]) -> Option<(bool, &[u8])>
     }
 }
 
-/// The name and the boolean of a member after its opening quote, and what follows them.
+/// Returns the name and the boolean of a member after its opening quote, and what follows them, or `None` if no plain
+/// member is there.
 #[inline(always)]
 fn split_member(bytes: &[u8]) -> Option<(&[u8], bool, &[u8])>
     ensures starts { IfSome result (λ parts. StartsWithMember bytes.now parts.0.now parts.1 parts.2.now) }
@@ -76,7 +77,7 @@ fn split_member(bytes: &[u8]) -> Option<(&[u8], bool, &[u8])>
     Some((name, is_member, rest))
 }
 
-/// The set of a map of plain names, if they are all known and none comes twice. No other text is read.
+/// Returns the set of a map of plain names that are all known, each once, or `None` for any other string.
 pub(super) fn read_plain_map<T: EnumSetNames>(text: &str) -> Option<EnumSet<T>>
     ensures set { IfSome result (λ set. (unknown : Unknown)
         → IsResult (value_read (set_of_map (names_of T.elements T.names) unknown) text.now) (Ok set)) }
@@ -90,6 +91,7 @@ pub(super) fn read_plain_map<T: EnumSetNames>(text: &str) -> Option<EnumSet<T>>
     let mut seen = EnumSet::new();
     let mut set = EnumSet::new();
     let mut next = 0;
+    // Each iteration reads at least one byte. The bound only shows that the loop ends.
     for _ in 0..text.len() {
         let (name, is_member, rest) = split_member(left)?;
         let element: T = find_value(name, &mut next)?;

@@ -1,4 +1,4 @@
-//! JSON texts of whole numbers, written and read digit by digit, without a tree of values.
+//! Strings that are whole numbers, written and read digit by digit, without a tree of values.
 
 ghost use Rattle.std.specs.Prelude.{◌≡◌, ◌<◌, ◌+◌, ◌^◌, ◌++◌, ℕ, List, true, decimal, IfOk, IfSome, Some, IsSome};
 ghost use Rattle.std.specs.Prelude.{is_some, string_bytes};
@@ -12,7 +12,7 @@ use super::digits::{ascii_text, push_digits};
 use super::scan::{are_spaces, split_spaces};
 use std::alloc::{AllocError, Global};
 
-/// The digits of a number.
+/// Returns the digits of a number as a string.
 pub(super) fn write_plain_number(alloc: Global, number: u64) -> Result<String, AllocError>
     ensures text { IfOk result (λ text. string_bytes text ≡ decimal number) }
     ensures reads { IfOk result (λ text. read (string_bytes text) ≡ Some (number_value number)) }
@@ -22,7 +22,7 @@ pub(super) fn write_plain_number(alloc: Global, number: u64) -> Result<String, A
     Ok(ascii_text(bytes))
 }
 
-/// The whole number below 2^64 in a text that has nothing else, except spaces at its ends. No other text is read.
+/// Returns the whole number below 2^64 that a string is, with spaces at its ends, or `None` for any other string.
 pub(super) fn read_plain_number(text: &str) -> Option<u64>
     ensures value { IfSome result (λ number. read text.now ≡ Some (number_value number)) }
     ensures plain { IsPlainNumber text.now → IsSome result }
@@ -32,7 +32,8 @@ pub(super) fn read_plain_number(text: &str) -> Option<u64>
     are_spaces(end).then_some(number)
 }
 
-/// The whole number below 2^64 whose digits come first, and what follows them.
+/// Returns the whole number whose digits come first, and what follows them, or `None` if no digit comes first or the
+/// number is not below 2^64.
 #[inline(always)]
 pub(super) fn split_number(bytes: &[u8]) -> Option<(u64, &[u8])>
     ensures below { IfSome result (λ parts. parts.0 < 2 ^ 64) }
@@ -66,7 +67,7 @@ pub(super) fn split_number(bytes: &[u8]) -> Option<(u64, &[u8])>
     Some((number, left))
 }
 
-/// The digit that a byte is.
+/// Returns the number of the digit that a byte is, or `None` if the byte is no ASCII digit.
 #[inline(always)]
 fn digit_of(byte: u8) -> Option<u64>
     ensures below { IfSome result (λ digit. digit < 10) }

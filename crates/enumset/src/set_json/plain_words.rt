@@ -1,4 +1,4 @@
-//! JSON texts of arrays of words, written and read without a tree of values.
+//! Strings that are arrays of words, written and read without a tree of values.
 
 ghost use Rattle.std.specs.Prelude.{◌≡◌, ℕ, List, IfOk, IfSome, IsSome, Some, string_bytes};
 ghost use Rattle.enumset_repr.specs.BitSet.{low, is_subset, below};
@@ -15,7 +15,7 @@ use super::words_read::WordsRead;
 use enumset_repr::EnumSetTypeRepr;
 use std::alloc::{AllocError, Global};
 
-/// The array of the words of a value that represents a set.
+/// Returns the array of the words of a value that represents a set, as a string.
 pub(super) fn write_plain_words<R: EnumSetTypeRepr>(
     alloc: Global,
     repr: &R,
@@ -25,7 +25,7 @@ pub(super) fn write_plain_words<R: EnumSetTypeRepr>(
     ensures reads { IfOk result (λ text. read (string_bytes text)
         ≡ Some (words_value (words (R.members repr.now) R.PREFERRED_ARRAY_LEN))) }
 {
-    // A word has at most twenty digits.
+    // A word has at most twenty digits and a comma, and the array two brackets.
     let room = R::PREFERRED_ARRAY_LEN.saturating_mul(21).saturating_add(2);
     let mut bytes = Vec::with_capacity(alloc, room)?;
     bytes.push(b'[')?;
@@ -39,8 +39,9 @@ pub(super) fn write_plain_words<R: EnumSetTypeRepr>(
     Ok(ascii_text(bytes))
 }
 
-/// The bits of an array's words below the representation's width, and whether these are all their bits. The array has
-/// only whole numbers below 2^64, with spaces anywhere between its tokens. No other text is read.
+/// Returns the bits of an array's words that are below the representation's width, and whether the words have no other
+/// bits. The array has only whole numbers below 2^64, with spaces anywhere between its tokens. For any other string the
+/// result is `None`.
 pub(super) fn read_plain_words<R: EnumSetTypeRepr>(text: &str) -> Option<WordsRead<R>>
     ensures words { IfSome result (λ found. (ws : List ℕ)
         × (read text.now ≡ Some (words_value ws))

@@ -1,5 +1,5 @@
-//! Steps over a JSON text whose strings have no escapes: spaces byte by byte, strings sixteen bytes at a time where
-//! sixteen are left.
+//! Steps over a string of JSON whose names have no escapes: spaces byte by byte, names sixteen bytes at a time where
+//! sixteen are left. A byte is plain if it needs no escape in a JSON string and does not end it.
 
 ghost use Rattle.std.specs.Prelude.{◌≡◌, ◌≤◌, ◌<◌, ◌+◌, ◌*◌, ◌++◌, ◌∷◌, [], ◌↔◌, ℕ, List, true, false};
 ghost use Rattle.std.specs.Prelude.{IfSome, IsTrue, length, take, drop, slice_index};
@@ -8,7 +8,7 @@ ghost use Rattle.enumset.specs.JsonPlain.{Begins, IsPlainByte, IsPlain, is_space
 
 use std::simd::prelude::*;
 
-/// Whether a byte needs no escape in a JSON string and does not end it.
+/// Returns whether a byte is plain.
 #[inline(always)]
 fn is_plain_byte(byte: u8) -> bool
     ensures { IsTrue result ↔ IsPlainByte byte }
@@ -16,7 +16,7 @@ fn is_plain_byte(byte: u8) -> bool
     byte != b'"' && byte != b'\\' && byte >= b' '
 }
 
-/// Whether a name needs no escape in a JSON string.
+/// Returns whether all bytes of a name are plain, so that it needs no escape in a JSON string.
 pub(super) fn is_plain(name: &str) -> bool
     ensures { IsTrue result → IsPlain name.now }
 {
@@ -28,7 +28,8 @@ pub(super) fn is_plain(name: &str) -> bool
     }
 }
 
-/// Whether the first N bytes and the last N are plain: for short names, faster than byte by byte.
+/// Returns whether the first N bytes and the last N are plain, which are all bytes if there are at most 2 N. For short
+/// names this is faster than byte by byte.
 #[inline(always)]
 fn are_ends_plain<const N: usize>(bytes: &[u8]) -> bool
     requires room { N ≤ length bytes.now }
@@ -39,7 +40,7 @@ fn are_ends_plain<const N: usize>(bytes: &[u8]) -> bool
     plain_before::<N>(bytes, 0) == N && plain_before::<N>(bytes, bytes.len() - N) == N
 }
 
-/// How many bytes at the front are plain.
+/// Returns how many bytes at the front are plain.
 #[inline(always)]
 fn plain_len(bytes: &[u8]) -> usize
     ensures within { result ≤ length bytes.now }
@@ -60,7 +61,7 @@ fn plain_len(bytes: &[u8]) -> usize
     bytes.len()
 }
 
-/// How many of the N bytes from a place on come before one that is not plain.
+/// Returns how many of the N bytes from the index `begin` on come before the first that is not plain, or N if all are.
 #[inline(always)]
 fn plain_before<const N: usize>(bytes: &[u8], begin: usize) -> usize
     requires room { begin + N ≤ length bytes.now }
@@ -76,7 +77,7 @@ fn plain_before<const N: usize>(bytes: &[u8], begin: usize) -> usize
     N.min(special.to_bitmask().trailing_zeros() as usize)
 }
 
-/// The spaces at the front, and what follows them.
+/// Returns the spaces at the front, and what follows them.
 #[inline(always)]
 pub(super) fn split_spaces(bytes: &[u8]) -> (&[u8], &[u8])
     ensures whole { bytes.now ≡ result.0.now ++ result.1.now }
@@ -93,7 +94,7 @@ pub(super) fn split_spaces(bytes: &[u8]) -> (&[u8], &[u8])
     bytes.split_at(bytes.len())
 }
 
-/// What follows a byte, if only spaces come before it.
+/// Returns what follows the byte `byte`, if only spaces come before it, else `None`.
 #[inline(always)]
 pub(super) fn after_byte(bytes: &[u8], byte: u8) -> Option<&[u8]>
     ensures passed { IfSome result (λ rest. Passed bytes.now byte rest.now) }
@@ -104,7 +105,7 @@ pub(super) fn after_byte(bytes: &[u8], byte: u8) -> Option<&[u8]>
     (*first == byte).then_some(rest)
 }
 
-/// Whether there are only spaces.
+/// Returns whether there are only spaces.
 #[inline(always)]
 pub(super) fn are_spaces(bytes: &[u8]) -> bool
     ensures { IsTrue result ↔ AreSpaces bytes.now }
@@ -112,7 +113,8 @@ pub(super) fn are_spaces(bytes: &[u8]) -> bool
     split_spaces(bytes).1.is_empty()
 }
 
-/// The bytes of a plain string after its opening quote, and what follows its closing one.
+/// Returns the bytes of a plain string after its opening quote, and what follows its closing quote, or `None` if the
+/// string is not plain or has no end.
 #[inline(always)]
 pub(super) fn split_string(bytes: &[u8]) -> Option<(&[u8], &[u8])>
     ensures plain { IfSome result (λ parts. IsPlain parts.0.now) }

@@ -1,4 +1,4 @@
-//! Sets to and from JSON texts, in each form.
+//! Sets to and from strings of JSON, in each form.
 
 ghost use Rattle.std.specs.Prelude.{◌≡◌, ◌↔◌, ◌⊎◌, false, Some, Err, IfOk, IfErr, string_bytes};
 ghost use Rattle.std.specs.Prelude.{decimal};
@@ -94,9 +94,9 @@ pub fn to_map_text<T: EnumSetNames>(alloc: Global, set: &EnumSet<T>) -> Result<S
     }
 }
 
-/// Reads a set from a string of JSON that is a number, as [`from_number`] reads it from the number. It has the faults
-/// of [`from_number`] and two more: [`JsonFault::NotJson`] if the string is not JSON, and [`JsonFault::OutOfMemory`],
-/// since strings other than whole numbers below 2^64 are parsed in memory.
+/// Reads a set from a string of JSON that is a number, as [`from_number`] reads it from the number. The faults are
+/// those of [`from_number`] and two more: [`JsonFault::NotJson`] if the string is not JSON, and
+/// [`JsonFault::OutOfMemory`], since strings other than whole numbers below 2^64 are parsed in memory.
 pub fn from_number_text<T: EnumSetType>(
     alloc: Global,
     text: &str,
@@ -114,7 +114,7 @@ pub fn from_number_text<T: EnumSetType>(
 }
 
 /// Reads a set from a string of JSON that is an array of words of 64 bits, as [`from_words`] reads it from the array.
-/// It has the faults of [`from_words`] and two more: [`JsonFault::NotJson`] if the string is not JSON, and
+/// The faults are those of [`from_words`] and two more: [`JsonFault::NotJson`] if the string is not JSON, and
 /// [`JsonFault::OutOfMemory`], since strings other than arrays of whole numbers below 2^64 are parsed in memory.
 pub fn from_words_text<T: EnumSetType>(
     alloc: Global,
@@ -131,8 +131,8 @@ pub fn from_words_text<T: EnumSetType>(
     }
 }
 
-/// Reads a set from a string of JSON that is an array of names, as [`from_list`] reads it from the array. It has the
-/// faults of [`from_list`] and two more: [`JsonFault::NotJson`] if the string is not JSON, and
+/// Reads a set from a string of JSON that is an array of names, as [`from_list`] reads it from the array. The faults
+/// are those of [`from_list`] and two more: [`JsonFault::NotJson`] if the string is not JSON, and
 /// [`JsonFault::OutOfMemory`], since strings other than arrays of strings without escapes are parsed in memory.
 pub fn from_list_text<T: EnumSetNames>(
     alloc: Global,
@@ -149,8 +149,8 @@ pub fn from_list_text<T: EnumSetNames>(
     }
 }
 
-/// Reads a set from a string of JSON that is an object of names, as [`from_map`] reads it from the object. It has the
-/// faults of [`from_map`] and two more: [`JsonFault::NotJson`] if the string is not JSON, and
+/// Reads a set from a string of JSON that is an object of names, as [`from_map`] reads it from the object. The faults
+/// are those of [`from_map`] and two more: [`JsonFault::NotJson`] if the string is not JSON, and
 /// [`JsonFault::OutOfMemory`], since strings other than objects with known names, each once and without escapes, are
 /// parsed in memory.
 pub fn from_map_text<T: EnumSetNames>(

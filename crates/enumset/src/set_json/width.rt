@@ -22,7 +22,7 @@ pub enum JsonWidth {
 }
 
 impl JsonWidth {
-    /// Returns how many bits the type has. It has no counterpart in Rust's `enumset`.
+    /// Returns how many bits the type has. Rust's `enumset` has no such call.
     pub fn bits(self) -> u32
         ensures bits { result ≡ width_of self }
         ensures narrow { width_of self ≤ 64 }
@@ -36,14 +36,15 @@ impl JsonWidth {
     }
 }
 
-/// Whether a number has no bit at or past a width.
+/// Returns whether a number has no bit at or past a width.
 pub(super) fn fits(number: u64, width: u32) -> bool
     ensures { result ≡ nat_lt number (2 ^ width) }
 {
     width >= u64::BITS || number >> width == 0
 }
 
-/// The whole number that a value holds.
+/// Returns the whole number that a value holds, or [`JsonFault::NotWhole`] of another number, or
+/// [`JsonFault::NotANumber`] of any other value.
 pub(super) fn whole_number(value: &Value) -> Result<u64, JsonFault>
     ensures { result ≡ whole_number (view value.now) }
 {

@@ -17,8 +17,8 @@ use serde_json::Value;
 use std::alloc::Global;
 
 /// Returns the set's words of 64 bits, the lowest first, as many as its representation has. The only fault is
-/// [`JsonFault::OutOfMemory`], and there is none where the representation has no word. It is the form of
-/// `serialize_repr = "array"` of Rust's `enumset`.
+/// [`JsonFault::OutOfMemory`], which never comes where the representation has no word. Rust's `enumset` writes this
+/// form under `serialize_repr = "array"`.
 pub fn to_words<T: EnumSetType>(alloc: Global, set: &EnumSet<T>) -> Result<Value, JsonFault>
     ensures succeeds { T.Repr.PREFERRED_ARRAY_LEN ≡ 0 → IsOk result }
     ensures value { IfOk result (λ value.
@@ -28,7 +28,7 @@ pub fn to_words<T: EnumSetType>(alloc: Global, set: &EnumSet<T>) -> Result<Value
     write_words(alloc, &raw::get(set.copied()))
 }
 
-/// The array of the words of a value that represents a set.
+/// Returns the array of the words of a value that represents a set.
 pub(super) fn write_words<R: EnumSetTypeRepr>(alloc: Global, repr: &R) -> Result<Value, JsonFault>
     ensures succeeds { R.PREFERRED_ARRAY_LEN ≡ 0 → IsOk result }
     ensures value { IfOk result (λ value.
@@ -45,16 +45,17 @@ pub(super) fn write_words<R: EnumSetTypeRepr>(alloc: Global, repr: &R) -> Result
 /// Returns the set of the valid bits of an array of words of 64 bits, the lowest first. There may be any number of
 /// them.
 ///
-/// The errors are [`JsonFault::NotAnArray`], [`JsonFault::NotAWord`] of the first element that is not one and, where
-/// unknown bits are refused, [`JsonFault::UnknownBits`], tested in this order. It takes no memory. It reads the form of
-/// `serialize_repr = "array"` of Rust's `enumset`.
+/// The faults are [`JsonFault::NotAnArray`], [`JsonFault::NotAWord`] of the first element that is not a word and, where
+/// unknown bits are refused, [`JsonFault::UnknownBits`], tested in this order. The call allocates nothing. Rust's
+/// `enumset` reads this form under `serialize_repr = "array"`.
 pub fn from_words<T: EnumSetType>(value: &Value, unknown: Unknown) -> Result<EnumSet<T>, JsonFault>
     ensures { result ≡ set_of_words (valid_bits T.elements) unknown (view value.now) }
 {
     accepted(read_words(value)?, unknown)
 }
 
-/// The set of the valid bits of words, unless the words have other bits and these are refused.
+/// Returns the set of the valid bits of words, or [`JsonFault::UnknownBits`] if the words have other bits and these are
+/// refused.
 pub(super) fn accepted<T: EnumSetType>(
     words: WordsRead<T::Repr>,
     unknown: Unknown,
@@ -72,7 +73,8 @@ pub(super) fn accepted<T: EnumSetType>(
     }
 }
 
-/// The bits of an array's words below the representation's width, and whether these are all their bits.
+/// Returns the bits of an array's words that are below the representation's width, and whether the words have no other
+/// bits. The faults are [`JsonFault::NotAnArray`] and [`JsonFault::NotAWord`] of the first element that is not a word.
 pub(super) fn read_words<R: EnumSetTypeRepr>(value: &Value) -> Result<WordsRead<R>, JsonFault>
     ensures read { IfOk result (λ read. (ws : List ℕ)
         × (words_in (view value.now) ≡ Ok ws)

@@ -10,14 +10,14 @@ use enumset_repr::repr::word_or_zero;
 /// The words that were read so far.
 #[derive(Drop)]
 pub(super) struct WordsRead<R: EnumSetTypeRepr> {
-    /// Their bits below the width.
+    /// The bits of the words that are below the width.
     pub(super) repr: R,
-    /// Whether these are all their bits.
+    /// Whether the words have no other bits.
     pub(super) is_whole: bool,
 }
 
 impl<R: EnumSetTypeRepr> WordsRead<R> {
-    /// No word was read.
+    /// Returns the state before any word was read.
     #[inline(always)]
     pub(super) fn new() -> Self
         ensures none { R.members result.repr ≡ empty }
@@ -29,7 +29,7 @@ impl<R: EnumSetTypeRepr> WordsRead<R> {
         }
     }
 
-    /// Reads the word at a place.
+    /// Reads one more word, the one at the index `place` of the array.
     #[inline(always)]
     pub(super) fn take(&mut self, place: usize, word: u64)
         ensures put { R.members self.new.repr ≡ (if nat_lt place R.PREFERRED_ARRAY_LEN

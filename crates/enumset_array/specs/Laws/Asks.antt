@@ -1,6 +1,6 @@
 -- The steps of an iterator that counts its asks.
---     counted      steps that count their asks bound them, and an equal clone has the same asks and span
---     listed      steps that count their asks are steps of the list of the items left
+--     counted      the bounds of `IsCounted` hold for steps of which `CountsAsks` is true
+--     listed      such steps are steps of the list of the items left
 use Rattle.std.proofs.Common.{◌≡◌, refl, ap, arith}
 use Rattle.std.specs.Iterator.{YieldsFirst, YieldsLast, item_count}
 use Rattle.enumset_repr.specs.Asks.{IterView, IsCounted}

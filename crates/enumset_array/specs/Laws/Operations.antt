@@ -1,6 +1,6 @@
 -- The operations on words that do to their bits what operations on sets do.
---     on_and, on_or, on_xor, on_and_not      `&`, `|`, `^` and `& !`
---     on_change                              `^` of the first word and the result of an operation
+--     on_and, on_or, on_xor, on_and_not      `a & b`, `a | b`, `a ^ b` and `a & !b`
+--     on_change      `^` of the first word and the result of an operation
 use Rattle.std.proofs.Common.{ℕ, ap, ◌∙◌, not, ◌&&◌, ◌||◌, bit_and, bit_or, refl, w64, bit_xor}
 use Rattle.std.proofs.Math.Pow.{ones_sub-lt}
 use Rattle.std.proofs.lemmas.Nat.{or_lt, xor_lt}

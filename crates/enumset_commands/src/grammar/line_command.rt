@@ -1,4 +1,4 @@
-//! What a line of text can write.
+//! Commands as what lines of text write.
 
 ghost use Rattle.std.specs.Prelude.{ℕ, List, Option, ◌∷◌};
 ghost use Rattle.enumset_commands.specs.Texts.{IsReadAs};

@@ -1,4 +1,4 @@
-//! `EnumSet` as the set of a run.
+//! `EnumSet` as the set of a run. `mixed_enum_set.rt` is the twin of this file: a call that changes here changes there.
 
 ghost use Rattle.std.specs.Prelude.{◌≡◌, true};
 ghost use Rattle.enumset_repr.specs.BitSet as set;

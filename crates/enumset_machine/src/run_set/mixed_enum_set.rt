@@ -1,4 +1,4 @@
-//! `MixedEnumSet` as the set of a run.
+//! `MixedEnumSet` as the set of a run. `enum_set.rt` is the twin of this file: a call that changes here changes there.
 
 ghost use Rattle.std.specs.Prelude.{◌≡◌, ◌↔◌, IsSome, IfSome};
 ghost use Rattle.enumset_mixed.specs.Mixed.{bit_with_validity};

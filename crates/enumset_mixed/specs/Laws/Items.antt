@@ -1,6 +1,6 @@
 -- The bits of the items that a mixed set's iterator yields.
 --     none_left      no bit is left if no item is
---     gave_first, gave_last      the first bit of a list, from the first item;  the last, from the last item
+--     gave_first, gave_last      the first bit left is that of the first item left;  the last is that of the last item
 use Rattle.std.proofs.Common.{◌≡◌, ℕ, Bool, List, [], ◌∷◌, ◌++◌, map, refl, sym, ap, ◌∙◌}
 use Rattle.std.proofs.lemmas.List.{map-append}
 use Rattle.enumset_repr.specs.BitSet.{BitSet}

@@ -5,7 +5,7 @@
 --     complement_..      the difference of a set v and a subset of it
 --     is_subset_.., is_disjoint_..      subsets, and sets with no common member
 --     from_list_.., insert_each_..      a set built from a list of its members
--- The ruleset `algebra` has those that a tactic can apply by itself. A crate above cites it by
+-- The ruleset `algebra` has the ones for a tactic. A crate above cites it by
 -- `#[tactic(auto, using(enumset_repr::specs::Laws::Algebra::algebra))]`.
 use Rattle.std.proofs.Common.{◌≡◌, ◌≢◌, ℕ, true, false, cond, List, [], ◌∷◌, refl, sym, ◌∙◌, arith, ne_eqb}
 use Rattle.std.proofs.lemmas.Bool.Decides.{nat_tests}
@@ -273,7 +273,7 @@ pub insert_each_union : (s t : BitSet) → insert_each s (ascending t) ≡ union
 unfolding union
 insert_each_union s t = refl
 
--- a step of a loop that inserts the numbers of a list in turn: it inserts the first and leaves the others
+-- a step of a loop that inserts the numbers of a list in turn: the step inserts the first and leaves the others
 pub insert_each_insert : (s : BitSet) (b : ℕ) (bs : List ℕ) → insert_each (insert s b) bs ≡ insert_each s (b ∷ bs)
 insert_each_insert s b bs = same_set _ _ (λ q. grind (arith, members, contains_insert_each))
 
@@ -283,6 +283,6 @@ insert_each_none s = refl
 
 pub ruleset on_lists = (from_list_ascending, insert_each_ascending, insert_each_union, insert_each_insert, insert_each_none)
 
--- What a proof about code over sets needs: the laws of `contains`, of subsets, and the laws of this file except those that
--- only reorder or regroup.
+-- What a proof about code over sets needs: the laws of `contains` and of subsets, and the rulesets above.
+-- what it proves: equations of sets, by rewriting
 pub ruleset algebra = (members, subsets, on_unions, on_intersections, on_differences, on_symmetric_differences, on_one_number, on_complements, on_subsets, on_lists)

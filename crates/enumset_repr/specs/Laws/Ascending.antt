@@ -1,8 +1,9 @@
 -- The list of a set's members, each once, ascending.
 --     AscendsFrom      a list is ascending, and its first number is at least a given one
 --     ascending_is      an ascending list of a set's members is `ascending` of that set
---     ascending_..      `ascending` of a set with a least or a greatest member
---     len_..      `len` of each set
+--     ascending_..      `ascending` of the empty set, and of a set with a least or a greatest member
+--     len_..      `len` as the length of the list, of the empty set, after an insertion and a removal;  its bound
+--     empty_of_..      a set without members is the empty set
 use Rattle.std.proofs.Common.{◌≡◌, ◌<◌, ◌≤◌, ℕ, suc, ◌+◌, ◌-◌, true, false, cond, ◌||◌, List, [], ◌∷◌, ◌++◌, refl, sym, ap, subst, ◌∙◌, length, arith, T, map, ◌↔◌, ◌==◌, nat_cmp, eqb-true}
 use Rattle.std.proofs.lemmas.Bool.{or_right}
 use Rattle.std.proofs.lemmas.Bool.Decides.{nat_tests}

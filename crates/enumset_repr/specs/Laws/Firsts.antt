@@ -6,7 +6,8 @@
 --     first_is_least, last_is_greatest      the first number of a set's list is `least`;  the last is `greatest`
 --     ascending_empty_iff      a set's list is empty exactly if the set is
 --     insert_sorted, ascending_insert      the list of a set with a number inserted
--- The rulesets `firsts` and `written_out` have those that a tactic can apply by itself.
+-- The rulesets for a tactic are `firsts`, which has the first four rows, and `written_out`, for a set that is written
+-- out.
 use Rattle.std.proofs.Common.{◌≡◌, ◌≤◌, ℕ, suc, Bool, true, false, cond, ◌||◌, List, [], ◌∷◌, ◌++◌, Some, refl, sym, ap, subst, ◌∙◌, arith, ◌↔◌, ◌==◌, nat_lt}
 use Rattle.std.proofs.lemmas.Bool.Decides.{nat_tests}
 use Rattle.enumset_repr.specs.BitSet.{BitSet, is_in, contains, ascending, empty, insert, remove, from_list}
@@ -50,6 +51,7 @@ last_greatest s m xs q is one = let none = (greatest_facts s m (last_is_greatest
 pub last_rest : (s : BitSet) (m : ℕ) (xs : List ℕ) → ascending s ≡ xs ++ m ∷ [] → xs ≡ ascending (remove s m)
 last_rest s m xs is = sym (without_last_push xs m) ∙ ap without_last (sym is ∙ ascending_greatest s m (last_is_greatest s m xs is)) ∙ without_last_push _ m
 
+-- what it proves: what a step of a set's iterator yields and leaves
 pub ruleset firsts = (ascending_empty_iff, first_is_least, first_member, first_least, first_rest, last_is_greatest, last_member, last_greatest, last_rest)
 
 -- ---- the list of a set that is written out
@@ -85,4 +87,5 @@ pub from_list_next : (b : ℕ) (bs : List ℕ) → from_list (b ∷ bs) ≡ inse
 unfolding from_list
 from_list_next b bs = refl
 
+-- what it proves: the list of a set whose members are written out
 pub ruleset written_out = (ascending_empty, ascending_insert, union_only, from_list_empty, from_list_next)

@@ -4,9 +4,9 @@
 --     image_empty, image_only, image_insert, image_union      the image of a set that is made of others
 --     is_subset_image, image_mono      an image as a subset of a set;  the image of a subset
 --     image_same, image_itself, image_image      functions that agree on the members;  the function that changes
---         nothing; two functions, one after the other
---     len_image, len_image_injective      the image has at most as many members, and as many if the function gives
---         different members different values
+--         nothing;  two functions, one after the other
+--     len_image, len_image_injective      the image has at most as many members as the set, and as many if the function
+--         gives different members different values
 use Rattle.std.proofs.Common.{◌≡◌, ◌↔◌, ◌≤◌, ℕ, Bool, true, false, true≢false, List, [], ◌∷◌, map, refl, sym, ap, ◌∙◌, arith, ◌==◌, eq-eqb, eqb-true}
 use Rattle.std.proofs.lemmas.Bool.{or_left, or_right, false_from_ne_true}
 use Rattle.std.proofs.lemmas.Bool.Decides.{nat_tests, same_from_decides}
@@ -70,7 +70,7 @@ image_empty f = same_members _ _
     (λ q here. let found = (contains_image f empty q).0 here in absurd (true≢false (sym found.1 ∙ contains_empty found.0)))
     (λ q here. absurd (true≢false (sym here ∙ contains_empty q)))
 
--- a greater set has a greater image
+-- the image of a subset is a subset of the image
 pub image_mono : (f : ℕ → ℕ) (s t : BitSet) → is_subset s t ≡ true → is_subset (image f s) (image f t) ≡ true
 image_mono f s t within = (is_subset_image f s (image f t)).1 (λ b one. image_member f t b (is_subset_contains s t within b one))
 
@@ -102,7 +102,7 @@ image_only f b = same_members _ _
     ap (contains (only (f b))) (found.2 ∙ ap f (only_member b found.0 found.1)) ∙ contains_inserted empty (f b))
     (λ q here. ap (contains (image f (only b))) (only_member (f b) q here) ∙ image_member f (only b) b (contains_inserted empty b))
 
--- a number that is inserted inserts its value into the image
+-- where a number is inserted, its value is inserted into the image
 pub image_insert : (f : ℕ → ℕ) (s : BitSet) (b : ℕ) → image f (insert s b) ≡ insert (image f s) (f b)
 image_insert f s b =
     ap (image f) (sym (union_only s b)) ∙ image_union f s (only b) ∙ ap (union (image f s)) (image_only f b) ∙ union_only (image f s) (f b)
@@ -144,7 +144,7 @@ len_image f = set_induction
     (omega (arith, ap len (image_empty f)))
     (λ s b absent earlier. let more = len_insert (image f s) (f b) in let all = ap len (image_insert f s b) in let one = len_inserted s b absent in grind arith)
 
--- it has as many if the function gives different members different values
+-- an image has as many members as the set if the function gives different members different values
 pub len_image_injective : (f : ℕ → ℕ) (s : BitSet) → ((b c : ℕ) → contains s b ≡ true → contains s c ≡ true → f b ≡ f c → b ≡ c) → len (image f s) ≡ len s
 len_image_injective f = set_induction
     (λ s. ((b c : ℕ) → contains s b ≡ true → contains s c ≡ true → f b ≡ f c → b ≡ c) → len (image f s) ≡ len s)

@@ -2,12 +2,12 @@
 --     is_subset_antisym, is_disjoint_comm      two sets, each a subset of the other, are equal;  `is_disjoint` is
 --         symmetric
 --     is_subset_iff_union, is_subset_iff_intersection, is_disjoint_iff_difference      a subset, and disjoint sets, by
---         an equation:  `is_subset_iff` and `is_disjoint_iff` of `Members` are the others
+--         an equation:  `is_subset_iff` and `is_disjoint_iff` of `Members` have other equations
 --     is_subset_intersection, is_subset_difference, is_subset_insert      a subset of an intersection and of a
---         difference; a set with a number inserted, as a subset:  `is_subset_union` of `Sets` is the other
+--         difference;  a set with a number inserted, as a subset:  `is_subset_union` of `Sets` has a union, as a subset
 --     is_disjoint_union      a union is disjoint from a set exactly if both sets are
---     .._mono, complement_antitone      greater sets have a greater union, intersection, and so on;  a greater set has
---         a smaller complement
+--     .._mono, complement_antitone      an operation on subsets results in a subset of its result on the sets;  the
+--         complement of a set is a subset of that of its subsets
 use Rattle.std.proofs.Common.{◌≡◌, ◌↔◌, ℕ, true, ◌&&◌, subst, arith}
 use Rattle.enumset_repr.specs.BitSet.{BitSet, contains, insert, remove, union, intersection, difference, is_subset, is_disjoint}
 use Rattle.enumset_repr.specs.Laws.Algebra.{union_within, union_left, intersection_within, intersection_right, difference_apart, is_disjoint_difference}
@@ -52,29 +52,29 @@ is_subset_insert s t b = grind (arith, decided)
 pub is_disjoint_union : (s t u : BitSet) → is_disjoint (union s t) u ≡ (is_disjoint s u && is_disjoint t u)
 is_disjoint_union s t u = grind (arith, decided)
 
--- ---- monotony
+-- ---- monotony: here s is a subset of t, and u of v
 
--- greater sets have a greater union
+-- the union of subsets is a subset of the union
 pub union_mono : (s t u v : BitSet) → is_subset s t ≡ true → is_subset u v ≡ true → is_subset (union s u) (union t v) ≡ true
 union_mono s t u v one other = grind (arith, decided)
 
--- greater sets have a greater intersection
+-- the intersection of subsets is a subset of the intersection
 pub intersection_mono : (s t u v : BitSet) → is_subset s t ≡ true → is_subset u v ≡ true → is_subset (intersection s u) (intersection t v) ≡ true
 intersection_mono s t u v one other = grind (arith, decided)
 
--- a greater set without less is greater
+-- the difference of a subset and a larger set is a subset of the difference: here v is a subset of u
 pub difference_mono : (s t u v : BitSet) → is_subset s t ≡ true → is_subset v u ≡ true → is_subset (difference s u) (difference t v) ≡ true
 difference_mono s t u v one other = grind (arith, decided)
 
--- a greater set has a smaller complement within v
+-- the complement of t within v is a subset of that of s
 pub complement_antitone : (v s t : BitSet) → is_subset s t ≡ true → is_subset (difference v t) (difference v s) ≡ true
 complement_antitone v s t within = grind (arith, decided)
 
--- a greater set is greater with a number inserted
+-- a subset with a number inserted is a subset of the set with this number inserted
 pub insert_mono : (s t : BitSet) (b : ℕ) → is_subset s t ≡ true → is_subset (insert s b) (insert t b) ≡ true
 insert_mono s t b within = grind (arith, decided)
 
--- a greater set is greater with a number removed
+-- a subset with a number removed is a subset of the set with this number removed
 pub remove_mono : (s t : BitSet) (b : ℕ) → is_subset s t ≡ true → is_subset (remove s b) (remove t b) ≡ true
 remove_mono s t b within = grind (arith, decided)
 

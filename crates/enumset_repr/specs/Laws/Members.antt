@@ -1,5 +1,5 @@
 -- Laws of sets by membership: what `contains` returns for each set in `BitSet`.
---     contains_..      what `contains` returns for such a set;  the ruleset `members` has them all
+--     contains_..      what `contains` returns for such a set;  the ruleset `members` has those that name no list
 --     same_set, is_same_iff      sets with the same members are equal
 --     same_in, same_both      values made from such sets in the same way are equal
 --     is_subset_.., contains_is_subset, is_subset_iff      a subset, by its members;  by an empty difference
@@ -96,7 +96,7 @@ pub same_set : (s t : BitSet) → ((q : ℕ) → contains s q ≡ contains t q) 
 unfolding contains
 same_set s t is = map.same_map nat_cmp_total map.nat_cmp-IsAntisymmetric s t (λ q. mark_of _ ∙ ap marked (is q) ∙ sym (mark_of _))
 
--- values made from such sets are equal, like `Some` of a set or a pair, inside which a search does not look for equal sets
+-- values made from such sets are equal, like `Some` of a set or a pair of sets: a search does not look inside them
 pub same_in : {A : Type 0} (f : BitSet → A) (s t : BitSet) → ((q : ℕ) → contains s q ≡ contains t q) → f s ≡ f t
 same_in f s t is = ap f (same_set s t is)
 
@@ -195,7 +195,7 @@ member_below s n b sub in_s = ltb-true b n (sym (contains_below n b) ∙ is_subs
 pub contains_past : (s : BitSet) (n b : ℕ) → is_subset s (below n) ≡ true → n ≤ b → contains s b ≡ false
 contains_past s n b sub past = false_from_ne_true (contains s b) (λ in_s. omega (arith, past, member_below s n b sub in_s))
 
--- The result of an operation on subsets of the valid bits is a subset of them:
+-- The result of an operation on subsets of a set v is a subset of v:
 -- `#[tactic(auto, using(enumset_repr::specs::Laws::Members::subsets))]`.
 pub ruleset subsets = (is_subset_itself, empty_is_subset, insert_is_subset, remove_is_subset, union_is_subset, intersection_is_subset, difference_is_subset, symmetric_difference_is_subset)
 

@@ -1,5 +1,5 @@
 -- The model of sets by its equations. They determine each operation, so whoever believes the checker need not read how
--- `BitSet` defines it, nor the maps of std that it stands on.
+-- `BitSet` defines the operations, nor the maps of std that it uses.
 --     ascends_at      the list of the members ascends: an earlier number is less than a later one
 --     is_subset_by, is_disjoint_by      a subset and disjoint sets, by each number
 -- The ruleset `equations` has these, what `contains` returns for each set, that sets with the same members are equal,

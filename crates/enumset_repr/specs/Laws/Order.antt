@@ -4,7 +4,8 @@
 --     compare_number, compare_bits      sets compare as their numbers do
 --     compare_subset      a proper subset is less
 --     compare_turned      for two subsets of one set, their complements in that set compare the other way round
---     same_compare, compare_partial      what else `PartialOrd` and `Ord` require
+--     same_compare, compare_partial      what `Ord` and `PartialOrd` require besides:  `is_same` is true exactly where
+--         `compare` is `Equal`;  with `is_same`, `compare` is a partial order
 --     max_superset, superset_max      the maximum of a set and a subset of it is the set
 --     min_subset, subset_min      the minimum of a set and a subset of it is the subset
 --     number_max, number_min      the number of the greater set, and of the lesser
@@ -109,7 +110,7 @@ pub compare_subset : (s t : BitSet) → is_subset s t ≡ true → s ≢ t → c
 unfolding compare
 compare_subset s t = subset_by s t (deciding_number s t) refl
 
--- for two subsets of u: their complements in u differ exactly where they do
+-- for two subsets of u: their complements in u differ exactly where the subsets differ
 lacks : (u s t : BitSet) → is_subset s u ≡ true → is_subset t u ≡ true → symmetric_difference (difference u s) (difference u t) ≡ symmetric_difference t s
 lacks u s t sub also = same_set _ _ (λ q. let each = is_subset_contains s u sub q in let more = is_subset_contains t u also q in grind (arith, members))
 

@@ -2,8 +2,8 @@
 --     some_one      a set that is not empty has a member
 --     len_one_iff      the sets with one member are those of one number
 --     member_outside      of two sets the one with more members has one that is not in the other
---     pigeonhole_below, pigeonhole_within      more than n numbers are not all below n;  two subsets of a set that
---         together have more members than it have one in common
+--     pigeonhole_below, pigeonhole_within      more than n numbers are not all below n;  two subsets of a set have a
+--         member in common if together they have more members than the set
 --     pigeonhole_image      where there are fewer values than members, two members have the same value
 use Rattle.std.proofs.Common.{◌≡◌, ◌≢◌, ◌↔◌, ◌<◌, ◌≤◌, ◌+◌, ℕ, Bool, true, false, true≢false, Option, Some, None, refl, sym, ap, ◌∙◌, arith}
 use Rattle.std.proofs.lemmas.Bool.Decides.{nat_tests}
@@ -50,7 +50,7 @@ pigeonhole_below s n more =
     let past = one.2 in
     (one.0, one.1, grind (arith, nat_tests, contains_below n one.0))
 
--- two subsets of u that together have more members than u have one in common
+-- two subsets of u have a member in common if together they have more members than u
 pub pigeonhole_within : (u s t : BitSet) → is_subset s u ≡ true → is_subset t u ≡ true → len u < len s + len t → (b : ℕ) × (contains s b ≡ true) × (contains t b ≡ true)
 pigeonhole_within u s t one other more =
     let within : is_subset (union s t) u ≡ true = grind (arith, decided) in

@@ -4,7 +4,7 @@
 --     retain_same      tests that agree on the members
 --     retain_empty, retain_insert, retain_union, retain_intersection, retain_difference      the test over a set that
 --         is made of others
---     retain_is_subset, retain_mono      the result is a subset;  it is greater for a greater set
+--     retain_is_subset, retain_mono      the result is a subset of the set;  the result for a subset is a subset of it
 --     retain_parts, retain_apart, len_retain_parts      the members that pass a test and those that do not:  together
 --         they are the set, none is in both, and their sizes add up
 --     retain_contains, retain_outside      the members that are in another set, and those that are not
@@ -28,7 +28,7 @@ retain_all s = same_set _ _ (λ b. grind (arith, members))
 pub retain_none : (s : BitSet) → retain s (λ _. false) ≡ empty
 retain_none s = same_set _ _ (λ b. grind (arith, members))
 
--- tests that agree on the members leave the same
+-- tests that agree on the members leave the same members
 pub retain_same : (s : BitSet) (p q : ℕ → Bool) → ((b : ℕ) → contains s b ≡ true → p b ≡ q b) → retain s p ≡ retain s q
 retain_same s p q same = same_set _ _ (λ b. let here = same b in grind (arith, members))
 
@@ -55,11 +55,11 @@ retain_intersection s t p = same_set _ _ (λ b. grind (arith, members))
 pub retain_difference : (s t : BitSet) (p : ℕ → Bool) → retain (difference s t) p ≡ difference (retain s p) (retain t p)
 retain_difference s t p = same_set _ _ (λ b. grind (arith, members))
 
--- what is left is a subset
+-- what is left is a subset of the set
 pub retain_is_subset : (s : BitSet) (p : ℕ → Bool) → is_subset (retain s p) s ≡ true
 retain_is_subset s p = grind (arith, decided)
 
--- of a greater set more is left
+-- what is left of a subset is a subset of what is left of the set
 pub retain_mono : (s t : BitSet) (p : ℕ → Bool) → is_subset s t ≡ true → is_subset (retain s p) (retain t p) ≡ true
 retain_mono s t p within = grind (arith, decided)
 

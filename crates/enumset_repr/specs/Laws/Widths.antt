@@ -65,9 +65,10 @@ fits_number s n small = subst (λ t. is_subset t (below n) ≡ true) (bits_numbe
 
 pub ruleset cuts = (low_is_subset, low_part, low_within, low_inside, within_from_low, low_intersection, low_empty, bits_number, number_bits, intersection_right, difference_within, difference_none)
 
--- ---- what a call to or from an integer needs. A tactic cannot read a width off a literal: it computes `low_zeros` of it.
+-- ---- what a call to or from an integer needs. A tactic cannot find the width w in a literal 2 ^ w - 1: `low_zeros` of
+-- the next number computes it.
 
--- `n & 0xff`
+-- the number of a set, cut by a mask of ones, like `n & 0xff`
 pub cut_to : (s : BitSet) (m : ℕ) → suc m ≡ 2 ^ low_zeros 128 (suc m) → low_zeros 128 (suc m) ≤ 128 → bit_and (number (low s 128)) m ≡ number (low s (low_zeros 128 (suc m)))
 cut_to s m e less =
     let ones : m ≡ 2 ^ low_zeros 128 (suc m) - 1 = omega (arith, e) in

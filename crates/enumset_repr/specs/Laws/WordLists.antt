@@ -11,9 +11,9 @@
 --     word_past, within_words      a set is below a width exactly if each word past the width is 0
 --     put_next      a set cut at a word, with the next word put in
 --     bits_of_within      the bits of a list of words are below 64 times its length
---     number_word      the number of the members below 64, by the one word
+--     number_word      the number of the members below 64 is the first word
 --     bits_of_halves, number_words      a number of 128 bits, and its two words
---     low_same_words      a set is below a width if a cut there leaves each word as it is
+--     low_same_words      a set is below a width if a cut at this width leaves each word as it is
 -- For a loop that fills a representation with the words of a list, the lowest first:
 --     none_put      before the first word the set is empty
 --     all_put      after the last word of the list or of the representation, all bits below the width are in
@@ -73,7 +73,7 @@ same_word x y small each = same_number y x (λ b. let above = contains_bits_abov
 pub word_bits_of : (ws : List ℕ) (w : ℕ) → ((i : ℕ) → slice_index ws i < 2 ^ 64) → word (bits_of ws) w ≡ slice_index ws w
 word_bits_of ws w fit = same_word (slice_index ws w) (word (bits_of ws) w) (fit w) (λ b. let here = contains_bits_of ws w b fit in contains_bits_word (bits_of ws) w b ∙ grind (arith, nat_tests))
 
--- the first list may lack zeros that the second ends in
+-- the words of the set of us are those of ws, which may have zeros after the words of us
 pub words_bits_of : (us ws : List ℕ) → ((i : ℕ) → slice_index us i < 2 ^ 64) → ((i : ℕ) → slice_index us i ≡ slice_index ws i) → words (bits_of us) (length ws) ≡ ws
 unfolding words
 words_bits_of us ws fit same = same_number_lists _ ws (length-map-range_with_len (word (bits_of us)) 0 (length ws)) (λ k under.
@@ -151,7 +151,7 @@ word_there s i q =
 pub put_next : (s : BitSet) (width i : ℕ) → with_word (low (low s (64 * i)) width) width i (word s i) ≡ low (low s (64 * (i + 1))) width
 put_next s width i = same_set _ _ (λ q. grind (arith, nat_tests, contains_low, contains_with_word, word_there s i q))
 
--- a set is below a width if a cut there leaves each of its words as it is
+-- a set is below a width if a cut at this width leaves each of its words as it is
 pub low_same_words : (s : BitSet) (width n : ℕ) → is_subset s (below (64 * n)) ≡ true → ((w : ℕ) → w < n → word (low s width) w ≡ word s w) → is_subset s (below width) ≡ true
 low_same_words s width n within same = within_from_low s width (same_set _ _ (by_word (λ q. contains (low s width) q ≡ contains s q) (λ w b small.
     let here = λ (under : w < n). ap (λ x. contains (bits x) b) (same w under) in

@@ -1,7 +1,7 @@
 -- Words of 64 bits: laws of `word`, `upward_shift` and `with_word`, at every width and place.
 --     contains_upward_shift, contains_with_word      the members of `upward_shift` and of `with_word`
 --     contains_bits_word      the bits of a word of a set
---     word_bits      a word of a number's set
+--     word_bits      word w of a number's set is the number, shifted down by 64 w, without the bits from 64 on
 --     bits_shifted_up      the set of `n << k`
 --     bits_put_low, bits_put_word      the set of a number after one of its words was replaced
 use Rattle.std.proofs.Common.{◌≡◌, ◌<◌, ◌≤◌, ℕ, suc, ◌+◌, ◌-◌, ◌*◌, ◌/◌, ◌%◌, ◌^◌, Bool, true, false, not, ◌&&◌, ◌||◌, List, [], ◌∷◌, refl, sym, ap, ◌∙◌, arith, map, cond, nat_lt, nat_le, sum_by, filter, bit_and, bit_or, pow_pos}

@@ -9,7 +9,7 @@
 --     .._in      what is found is a member;  if nothing is found, there is none
 --     .._has      no member in sight is less, or greater
 --     ascending_..      the list of the members
--- The ruleset `found` has the first four lines. The ruleset `ends` has the others, and goes with `decided` of
+-- The ruleset `found` has the first four rows. The ruleset `ends` has the others, and goes with `decided` of
 -- `Members`, whose first lines say why these have a dummy variable.
 use Rattle.std.proofs.Common.{◌≡◌, ◌≤◌, ℕ, suc, Bool, true, false, cond, List, [], ◌∷◌, Option, Some, None, refl, sym, ap, subst, ◌∙◌, arith, ◌==◌, MatchOption, find, eq-eqb, ◌↔◌}
 use Rattle.std.proofs.lemmas.Bool.{or_left, or_right}
@@ -75,6 +75,7 @@ difference_tells s t = (refl, difference_none s t)
 pub intersection_tells : (s t : BitSet) → (intersection s t ≡ intersection s t) × (intersection s t ≡ empty → is_disjoint s t ≡ true)
 intersection_tells s t = (refl, (is_disjoint_iff s t).1)
 
+-- what it proves: what `find`, `least` and `greatest` return
 pub ruleset found = (found_tells, least_tells, greatest_tells, least_at, greatest_at, members, difference_tells, intersection_tells)
 
 -- ---- the least and the greatest member against a number in sight, and lists of members
@@ -103,8 +104,8 @@ greatest_in s = (refl, by (greatest s) (greatest_tells s).1) where
   by None none = none
   by (Some m) some = some.0
 
--- only where `least` is in sight: a set's iterator shows its list, and the least member would be one more number at which
--- each set is read
+-- only where `least` is in sight: a set's iterator shows its list, and the least member would be one more number at
+-- which each set is read
 pub ascending_first_is : (s : BitSet) → (least s ≡ least s) × (least s ≡ first (ascending s))
 unfolding least
 ascending_first_is s = (refl, refl)
@@ -127,4 +128,5 @@ found_in p s = (refl, by (find p (ascending s)) (found_tells p s).1) where
   by None none = refl
   by (Some m) some = (some.0, some.1)
 
+-- what it proves: facts of the first and the last member
 pub ruleset ends = (least_in, least_has, greatest_in, greatest_has, found_in, found_has, ascending_first_is, ascending_none, last_is_greatest, ascending_has)

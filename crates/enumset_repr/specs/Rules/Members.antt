@@ -5,12 +5,12 @@
 --     at, .._once      what `contains` returns for each set, at a number in sight
 --     .._each, .._not      what a test says of each number in sight, or of the number that decides it
 --     insert_in, insert_not_empty      a number that is inserted is a member;  the set is then not empty
--- How a goal is proved. What asks for a number brings it into sight: `same_set`, `contains_is_subset` and
+-- How a goal is proved. What is about a number brings this number into sight: `same_set`, `contains_is_subset` and
 -- `contains_is_disjoint` any number, since they end in what is to be proved; an `is_empty` or `is_same` that is false
 -- the number that decides it. What is known to hold for all numbers, like that a set is a subset of another, is then
--- used at each of them, and `grind` splits the cases. That s is a subset of t, or disjoint from t, is used only where
--- `contains t q` is in sight, since it says nothing otherwise: the value of each set brings the fact that it is a
--- subset of the valid bits, and with these cases too the search would give up in a function of five sets.
+-- used at each number in sight, and `grind` splits the cases. That s is a subset of t, or disjoint from t, is used only
+-- where `contains t q` is in sight, since it says nothing otherwise: each `EnumSet` brings the fact that it is a subset
+-- of the valid bits, and with these cases too the search would give up in a function of five sets.
 -- Dummy variables. `grind` uses a law at the first call in its conclusion that shows all its variables, wherever that
 -- call is in sight. A law that shows `contains (union s t) q` is used only where exactly that call occurs, so a union
 -- of the hypotheses is not read at the number of the goal. `union_once` has one more variable, `w`, so that no single
@@ -25,10 +25,9 @@
 --         `len_of_part` of `Counts`
 -- Named variants. By `insert_in` each number that is inserted comes into sight, and each set is read there: with six
 -- named variants the search gave up. Goals about their sets are mostly decided at a number of their own, so the ruleset
--- of a crate's root has, in its place, `insert_not_empty`, and two rules that bring these numbers into sight where a set
--- may be empty, or two may be disjoint.
--- `union_only` and `difference_only` are here since a goal like `result ≡ Some (insert s b)` is not an equation between
--- sets.
+-- of a crate's root has `insert_not_empty` in place of `insert_in`, and two rules that bring inserted numbers into
+-- sight where a set may be empty, or two may be disjoint. `union_only` and `difference_only` are here since a goal like
+-- `result ≡ Some (insert s b)` is not an equation between sets.
 use Rattle.std.proofs.Common.{◌≡◌, ◌↔◌, ℕ, Bool, true, false, arith, List, [], ◌∷◌, get_or, refl, sym, ap, ◌∙◌, not, ◌&&◌, ◌||◌, true≢false, ◌==◌, nat_lt}
 use Rattle.std.proofs.lemmas.Bool.{false_from_ne_true}
 use Rattle.std.proofs.lemmas.Bool.Decides.{nat_tests, same_from_decides}
@@ -143,6 +142,8 @@ pub ruleset read_at_each = (at_each, empty_once, union_once, intersection_once, 
 -- what is known of sets, at each number in sight
 pub ruleset told_at_each = (union_only, difference_only, nat_tests, same_set, subset_each, disjoint_each, contains_is_subset, contains_is_disjoint, empty_of, empty_not, same_not, same_each)
 
+-- what it proves: equations, inclusions, disjointness, emptiness, sameness and membership of sets, from hypotheses of
+-- these kinds
 pub ruleset decided = (read_at_each, insert_in, told_at_each)
 
 -- ---- the same for code that names many variants

@@ -1,5 +1,5 @@
--- Rules for a search: numbers of sets, in the order of sets and in bits masked out of an integer. The first part of each
--- rule is always true: it shows the search where to use the rule.
+-- Rules for a search: numbers of sets, in the order of sets and in bits masked out of an integer. The first part of
+-- each rule is always true: it shows the search where to use the rule.
 --     numbered_at      the sets whose numbers are in sight
 --     number_of_part      the number of a subset is at most that of the set
 --     and_none      `a & b == 0` as a test of disjoint sets
@@ -31,6 +31,7 @@ pub number_of_part : (s t : BitSet) (v w : Bool) → (is_subset s t ≡ is_subse
 unfolding number
 number_of_part s t v w = (refl, refl, refl, sum_subset (λ b. 2 ^ b) s t)
 
+-- what it proves: facts of the order of sets, which is that of their numbers
 pub ruleset ordering = (compare_number, number_max, number_min, numbered_at, number_of_part, max_superset, superset_max, min_subset, subset_min)
 
 -- ---- bits masked out
@@ -43,4 +44,5 @@ and_none a b =
 pub and_ones : (a m : ℕ) → (bits (bit_and a m) ≡ bits (bit_and a m)) × (suc m ≡ 2 ^ low_zeros 128 (suc m) → bits m ≡ below (low_zeros 128 (suc m)))
 and_ones a m = (refl, bits_ones m)
 
+-- what it proves: facts of the bits of an integer that is masked
 pub ruleset masks = (and_none, and_ones, masked_tells, and_not, or_and_not, bits_and, bits_or, bits_xor)

@@ -1,4 +1,4 @@
-//! Long lists. A call that takes memory may always report that there is none, so no clause refuses a body that gives up
+//! Long lists. A call that takes memory may always report that there is none, so no clause rejects a body that gives up
 //! past some length.
 
 use enumset_commands::{Command, MixedCommand, Reply};

@@ -1,7 +1,7 @@
 -- What a cut at a width leaves of a set, and a set taken through words.
---     number_uncut      the number of a set below a width, after a cut there
---     low_held      a set of valid bits below the width does not change by a cut that it fits
---     low_part_within      a subset of v is a subset of v after a cut
+--     number_uncut      a cut at a width does not change the number of a set below this width
+--     low_held      a cut at a width that a set of valid bits fits does not change this set
+--     low_part_within      a subset of v stays a subset of v after a cut
 --     bits_masked      the bits that a number shares with the number of a set, after a cut at the number's width
 --     words_within      the words of a set up to its last member represent that set
 --     words_of_repr      the first words of a set of valid bits, as many as its representation has, represent that set
@@ -20,7 +20,8 @@ use Rattle.enumset_repr.specs.Words.{words, bits_of}
 pub number_uncut : (s : BitSet) (n : ℕ) → is_subset s (below n) ≡ true → number (low s n) ≡ number s
 number_uncut s n within = ap number (low_within s n within)
 
--- where v is below a width, a cut there does not change a subset of v, nor does a narrower cut that the subset fits
+-- if v is below a width, a cut at this width does not change a subset of v, nor does a narrower cut that the subset
+-- fits
 pub low_held : (s v : BitSet) (width n : ℕ) → is_subset s v ≡ true → is_subset v (below width) ≡ true → (n < width → is_subset s (below n) ≡ true) → low s n ≡ s
 low_held s v width n part bound fits = elim (cases_lt n width) [
   | inl narrow ↦ low_within s n (fits narrow)

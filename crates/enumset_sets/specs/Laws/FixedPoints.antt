@@ -1,19 +1,21 @@
 -- Laws of least fixed points.
---     union_over_is_subset, union_over_each, row_in_union_over, contains_union_over, union_over_insert      a union over
---         the members of a set: when it is inside a set;  that each row is inside it;  what it has;  with one more
+--     union_over_is_subset, union_over_each, row_in_union_over, contains_union_over, union_over_insert      a union
+--         over the members of a set: when it is a subset of a set;  that each row is a subset of it;  its
+--         members;  with one more number inserted
 --     monotone_..      monotone steps: a union over the members, the set itself, a constant, one step after another,
 --         unions, intersections, differences and parts of what monotone steps lead to
 --     reached_first, reached_part, reached_more, reached_one      what a loop has reached at first;  with a part of
 --         what the step leads to;  with all of it;  with one number of it
 --     reached_all, reached_last      once the step adds nothing, what is reached is the least closed set
---     least_closed_..      it is unique;  it is a fixed point of the step with the start added;  what is true of each
---         of its members;  it has exactly what is reachable
---     union_over_reachable      what a union over what is reachable has
+--     least_closed_..      the least closed set is unique;  it is a fixed point of the step with the start added;  what
+--         is true of each of its members;  it has exactly the reachable numbers
+--     union_over_reachable      the members of a union over the reachable numbers
 --     worklist_first, worklist_next, worklist_last, worklist_smaller      a worklist at first;  after one more number
 --         is done;  at its end;  then fewer are left
 --     pass_first, pass_adds, pass_by, pass_last, pass_smaller      a pass at first;  after a number that is added;
 --         after one that is not;  after a pass that added nothing;  fewer are left after one that added something
---     contains_leading_to, leading_to_is_subset      which numbers lead to some member;  that they are of the set
+--     contains_leading_to, leading_to_is_subset      which numbers of a set lead to some member of another;  that they
+--         are a subset of the set
 --     pending_next, pending_apart      the numbers pending, after one more is done
 -- The measure of such a loop falls by `fewer` of `Counts`.
 use Rattle.std.proofs.Common.{◌≡◌, ◌↔◌, ◌<◌, ◌≤◌, ℕ, zero, suc, Bool, true, false, ◌&&◌, ◌==◌, not, List, [], ◌∷◌, map, refl, sym, ap, subst, ◌∙◌, arith, true≢false, inl, inr}
@@ -36,7 +38,7 @@ all_of_map : (rows : ℕ → BitSet) (t : BitSet) (bs : List ℕ) → list_all (
 all_of_map rows t [] = refl
 all_of_map rows t (b ∷ bs) = ap (λ x. is_subset (rows b) t && x) (all_of_map rows t bs)
 
--- a union over a set is inside a set exactly if the set of each member is
+-- a union over s is a subset of t exactly if the set of each member of s is
 pub union_over_is_subset : (rows : ℕ → BitSet) (s t : BitSet) → is_subset (union_over rows s) t ≡ list_all (λ b. is_subset (rows b) t) (ascending s)
 unfolding union_over
 union_over_is_subset rows s t = union_all_is_subset (map rows (ascending s)) t ∙ all_of_map rows t (ascending s)
@@ -164,7 +166,7 @@ module _ (step : BitSet → BitSet) (start s : BitSet) (monotone : IsMonotone st
 pub reached_all : (step : BitSet → BitSet) (start s : BitSet) → IsReached step start s → IsClosed step s → IsLeastClosed step start s
 reached_all step start s reached closed = record { begun = reached.begun; closed = closed; least = reached.least }
 
--- after a step that adds nothing
+-- after a step that adds nothing, what is reached is the least closed set
 pub reached_last : (step : BitSet → BitSet) (start s : BitSet) → IsReached step start s → is_subset (step s) s ≡ true → IsLeastClosed step start (union s (step s))
 reached_last step start s reached closed = let same : s ≡ union s (step s) = grind (arith, decided) in subst (IsLeastClosed step start) same (reached_all step start s reached closed)
 
@@ -179,13 +181,13 @@ least_closed_unique step start s t one other =
     let here = other.least s one.begun one.closed in
     grind (arith, decided)
 
--- it is the least fixed point of the step with the start added
 union_parts : (t u v : BitSet) → is_subset t v ≡ true → is_subset u v ≡ true → is_subset (union t u) v ≡ true
 union_parts t u v one other = grind (arith, decided)
 
 both_ways : (t u : BitSet) → is_subset t u ≡ true → is_subset u t ≡ true → t ≡ u
 both_ways t u one other = grind (arith, decided)
 
+-- the least closed set is a fixed point of the step with the start added
 pub least_closed_fixed : (step : BitSet → BitSet) (start s : BitSet) → IsMonotone step → IsLeastClosed step start s → union start (step s) ≡ s
 least_closed_fixed step start s monotone is =
     let inside = union_parts start (step s) s is.begun is.closed in
@@ -210,14 +212,14 @@ worklist_next rows start done pending now_done now_pending b list one done_now w
   followed = let followed = list.followed in let row = union_over_insert rows done b in rw (whole, done_now, row) (grind (arith, decided));
 }
 
--- the pending numbers after one of them is done
+-- the numbers done and pending, together, after one of the pending ones is done
 pub pending_next : (done pending row : BitSet) (b : ℕ) → contains pending b ≡ true → union (insert done b) (union (remove pending b) (difference row (insert done b))) ≡ union (union done pending) row
 pending_next done pending row b one = same_set _ _ (λ q. grind (arith, members, nat_tests))
 
 pub pending_apart : (done pending row : BitSet) (b : ℕ) → is_disjoint done pending ≡ true → is_disjoint (insert done b) (union (remove pending b) (difference row (insert done b))) ≡ true
 pending_apart done pending row b apart = grind (arith, decided)
 
--- fewer numbers are not done
+-- after one more number is done, fewer numbers are not done
 pub worklist_smaller : (rows : ℕ → BitSet) (start done pending all : BitSet) (b : ℕ) → IsWorklist rows start done pending → contains pending b ≡ true → contains all b ≡ true → len (difference all (insert done b)) < len (difference all done)
 worklist_smaller rows start done pending all b list one valid =
     let apart = list.apart in
@@ -246,7 +248,7 @@ module _ (step : BitSet → BitSet) (start before now left rest : BitSet) (b : �
       added : (next : BitSet) → is_subset (difference next left) now ≡ true → is_subset (difference next rest) (insert now b) ≡ true
       added next seen = grind (arith, decided, nat_tests)
 
-  -- the step does not lead to it
+  -- the step does not lead to the next number
   pub pass_by : contains (step now) b ≡ false → IsPass step start before now rest
   pass_by not_led = record {
     reached = pass.reached;
@@ -257,7 +259,7 @@ module _ (step : BitSet → BitSet) (start before now left rest : BitSet) (b : �
       same : (next later : BitSet) → is_subset (difference next left) now ≡ true → is_subset next later ≡ true → contains later b ≡ false → is_subset (difference next rest) now ≡ true
       same next later seen inside not_led = grind (arith, decided, nat_tests)
 
--- after a pass that added nothing
+-- after a pass that added nothing, what is reached is the least closed set
 pub pass_last : (step : BitSet → BitSet) (start before now left : BitSet) → IsPass step start before now left → left ≡ empty → now ≡ before → IsLeastClosed step start now
 pass_last step start before now left pass none same =
     let all_seen = closed (step before) pass.seen in
@@ -266,7 +268,7 @@ pass_last step start before now left pass none same =
     closed : (next : BitSet) → is_subset (difference next left) now ≡ true → is_subset next now ≡ true
     closed next seen = grind (arith, decided)
 
--- after a pass that added something, fewer are left
+-- after a pass that added something, fewer numbers are not reached
 pub pass_smaller : (all before now : BitSet) → is_subset now all ≡ true → is_subset before now ≡ true → is_subset now before ≡ false → len (difference all now) < len (difference all before)
 pass_smaller all before now valid grown new = len_proper _ _ (grind (arith, decided)) (grind (arith, decided))
 
@@ -290,8 +292,8 @@ module _ (step : BitSet → BitSet) (start s : BitSet) (monotone : IsMonotone st
         rounds n (union t (step t)) (grind (arith, decided)) (grind (arith, decided)) (omega arith) (grown t each) q one
   ] refl
 
-  -- what is true of the start's members, and of what the step leads to if it is true of where the step begins, is true of
-  -- each member
+  -- P is true of each member if it is true of each member of the start, and of all to which the step leads from a set
+  -- of whose members it is true
   pub least_closed_each : (q : ℕ) → contains s q ≡ true → P q
   least_closed_each q one = rounds (len (difference s start)) start (grind (arith, decided)) is.begun (omega arith) first q one
 
@@ -308,7 +310,7 @@ module _ (rows : ℕ → BitSet) (start s : BitSet) (is : IsLeastClosed (union_o
   pub least_closed_reachable : (q : ℕ) → (contains s q ≡ true) ↔ IsReachable rows start q
   least_closed_reachable q = (linked q, member q)
 
--- a union over what is reachable has what some reachable number has
+-- a number is in a union over the reachable numbers exactly if it is in the set of one of them
 pub union_over_reachable : (rows others : ℕ → BitSet) (start s : BitSet) → IsLeastClosed (union_over rows) start s
     → (q : ℕ) → (contains (union_over others s) q ≡ true) ↔ ((b : ℕ) × IsReachable rows start b × (contains (others b) q ≡ true))
 union_over_reachable rows others start s is q = (

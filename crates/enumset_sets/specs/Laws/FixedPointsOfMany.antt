@@ -3,16 +3,16 @@
 --         another;  each within the other
 --     many_..      monotone steps for many: a constant, the set in a place, a step of one set after another, unions,
 --         intersections, differences and parts, the union over some places, what a place gathers
---     many_reached_first, many_reached_one, many_reached_all      what a loop has reached at first;  with what follows in
---         one place;  once the step adds nothing
---     many_least_closed_unique, many_least_closed_fixed      the least closed sets are unique;  each is what the start has in
---         its place, and what follows there
+--     many_reached_first, many_reached_one, many_reached_all      what a loop has reached at first;  with what follows
+--         in one place;  once the step adds nothing
+--     many_least_closed_unique, many_least_closed_fixed      the least closed sets are unique;  each is what the start
+--         has in its place, and what follows there
 --     many_lacking_less      fewer numbers are lacking, after a set gets what follows in its place
---     many_pass_first, many_pass_next, many_pass_last      a pass over the places at first;  after one more place;  at its
---         end
+--     many_pass_first, many_pass_next, many_pass_last      a pass over the places at first;  after one more place;  at
+--         its end
 --     below_first, below_next, below_whole      the places before one, for a pass in order
---     passed_first, passed_last, passed_smaller      whole passes at first;  after one that changed nothing;  the measure
---         of a loop over them
+--     passed_first, passed_last, passed_smaller      whole passes at first;  after one that changed nothing;  the
+--         measure of a loop over them
 use Rattle.std.proofs.Common.{◌≡◌, ◌≢◌, ◌<◌, ◌+◌, ℕ, Bool, true, false, ◌||◌, not, List, length, set, refl, sym, subst, ◌∙◌, arith, true≢false, inl, inr, add-one}
 use Rattle.std.proofs.lemmas.Bool.{cases_Bool, cases_eq, lt-ltb}
 use Rattle.std.proofs.lemmas.Bool.Decides.{nat_tests}
@@ -57,7 +57,7 @@ module _ (P : ℕ → BitSet → Type 0) (sets : List BitSet) (place : ℕ) (s :
     | inr different ↦ subst (P other) (sym (elsewhere sets place other s different)) (others other)
   ]
 
--- with more in one place
+-- a list is within the list that has more in one place
 more_at : (sets : List BitSet) (place : ℕ) (t : BitSet) → place < length sets → AreWithin sets (set sets place (union (set_at sets place) t))
 more_at sets place t here = record {
   count = sym (length-set sets place _);
@@ -116,7 +116,7 @@ many_reached_first step start = record { begun = within_itself start; least = λ
 both_inside : (t u v : BitSet) → is_subset t v ≡ true → is_subset u v ≡ true → is_subset (union t u) v ≡ true
 both_inside t u v one other = grind (arith, decided)
 
--- with what follows in one place
+-- sets that are reached are still reached after one of them gets what follows in its place
 pub many_reached_one : (step : List BitSet → ℕ → BitSet) (start sets : List BitSet) (place : ℕ) → IsMonotoneForMany step → AreReached step start sets → place < length sets
     → AreReached step start (set sets place (union (set_at sets place) (step sets place)))
 many_reached_one step start sets place monotone reached here = record {
@@ -253,7 +253,7 @@ module _ (all : BitSet) (step : List BitSet → ℕ → BitSet) (start before no
         | inr first ↦ first_less first (only_new _ _ is first)
       ]
 
--- the places of a list in turn
+-- the places below n, which a pass in order has done after n of them
 pub below_first : below 0 ≡ empty
 unfolding below
 below_first = refl
@@ -265,7 +265,7 @@ below_next n = rw add-one (is_subset_itself _)
 pub below_whole : (n place : ℕ) → place < n → contains (below n) place ≡ true
 below_whole n place here = contains_below n place ∙ lt-ltb place n here
 
--- a pass over all places
+-- what is known after a pass over all places
 pub many_pass_last : (all : BitSet) (step : List BitSet → ℕ → BitSet) (start before now : List BitSet) (done : BitSet) (changed : Bool) → IsPassOverMany all step start before now done changed
     → ((place : ℕ) → place < length now → contains done place ≡ true) → ArePassed step start now changed
 many_pass_last all step start before now done changed pass whole = record {

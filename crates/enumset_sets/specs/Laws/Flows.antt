@@ -1,9 +1,9 @@
--- What is in the least closed sets of a step for many, and of one by which sets flow from place to place.
+-- What is in the least closed sets of a step for many sets, and of a step by which sets flow from place to place.
 --     many_least_closed_each      what is true of the members of the start, and passes on by the step, is true of each
 --         member in its place
 --     reachable_before      what can be reached from where a number leads can be reached from the number
---     gathered_reachable, gathered_reachable_from_empty      of a gathered step, a set has exactly what arises, or is at
---         the start, at some place that its own place can reach;  the same of a start of empty sets
+--     gathered_reachable, gathered_reachable_from_empty      of a gathered step, a set has exactly what arises, or is
+--         at the start, at some place that its own place can reach;  the same of a start of empty sets
 use Rattle.std.proofs.Common.{◌≡◌, ◌⊎◌, ◌<◌, ◌≤◌, ◌↔◌, ℕ, zero, suc, true, false, List, length, set, sym, subst, ◌∙◌, arith, inl, inr}
 use Rattle.std.proofs.lemmas.Bool.{cases_Bool, cases_eq, cases_lt, or_cases}
 use Rattle.std.proofs.lemmas.Bool.Decides.{nat_tests}
@@ -111,11 +111,11 @@ reachable_before rows a b n leads (from_other m before next) = from_other m (rea
 
 module _ (own sources : ℕ → BitSet) (start sets : List BitSet) (are : AreLeastClosed (gathered own sources) start sets)
     (listed : (place b : ℕ) → place < length sets → contains (sources place) b ≡ true → b < length sets) where
-  -- a number that arises at a place, or is there at the start
+  -- the number arises at the place, or is there at the start
   abbrev IsAt : ℕ → ℕ → Type 0
   IsAt place q = (contains (own place) q ≡ true) ⊎ (contains (set_at start place) q ≡ true)
 
-  -- it is so at a place that this one can reach
+  -- the number arises, or is at the start, at some place that this place can reach
   abbrev Flows : ℕ → ℕ → Type 0
   Flows place q = (n : ℕ) × IsReachable sources (only place) n × IsAt n q
 
@@ -165,7 +165,7 @@ module _ (own sources : ℕ → BitSet) (start sets : List BitSet) (are : AreLea
     λ (n, path, is). let there = carried place n q within path in there.1 (arrived n q there.0 is),
   )
 
-  -- the same of a start of empty sets
+  -- the same where each set of the start is empty
   pub gathered_reachable_from_empty : ((n : ℕ) → set_at start n ≡ empty) → (place q : ℕ) → place < length sets
       → (contains (set_at sets place) q ≡ true) ↔ ((n : ℕ) × IsReachable sources (only place) n × (contains (own n) q ≡ true))
   gathered_reachable_from_empty none place q within = (

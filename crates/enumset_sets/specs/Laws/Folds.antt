@@ -60,4 +60,5 @@ pub extended_more : {A : Type 0} (f : A → ℕ) (s t u : BitSet) (xs : List A) 
 extended_more f s t u xs x before now =
     now ∙ ap (λ t. insert t (f x)) before ∙ sym (union_insert s (from_list (map f xs)) (f x)) ∙ ap (union s) (sym (from_list_more f xs x))
 
+-- what it proves: the invariant of a loop that collects elements or sets
 pub ruleset folds = (from_list_none, from_list_more, from_list_taken, union_all_none, union_all_more, union_all_mapped, union_empty, union_insert)

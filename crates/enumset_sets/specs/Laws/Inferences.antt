@@ -1,8 +1,8 @@
 -- Laws of inference by rules.
 --     concluded_by      a number is concluded exactly if it is the conclusion of a rule whose conditions are met
---     monotone_concluded      from more, no less is concluded
---     concluded_first, concluded_met, concluded_unmet, concluded_last      a loop over the rules, with what it found, at
---         first;  after a rule whose conditions are met;  after one whose are not;  at its end
+--     monotone_concluded      what is concluded from a subset is a subset of what is concluded from the set
+--     concluded_first, concluded_met, concluded_unmet, concluded_last      a loop over the rules, with what it found,
+--         at first;  after a rule whose conditions are met;  after one whose are not;  at its end
 use Rattle.std.proofs.Common.{◌≡◌, ℕ, true, false, ◌&&◌, ◌==◌, List, [], ◌∷◌, refl, arith, inl, inr}
 use Rattle.std.proofs.lemmas.Bool.{cases_Bool}
 use Rattle.std.proofs.lemmas.Bool.Decides.{nat_tests}

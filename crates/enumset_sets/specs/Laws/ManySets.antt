@@ -5,9 +5,11 @@
 --     union_all_none, union_all_step      the union of a set with all sets of a list, one after another
 --     any_same      whether a test passes for any item, for lists with the same items
 --     from_list_same, union_all_same, intersection_all_same      lists with the same items make the same set
---     union_all_member, union_all_within, union_all_mono      the union of the sets that a function makes of the members
---         of a set has each of these sets, is within each set that has them all, and is greater for a greater set
---     .._is_subset, .._is_disjoint      a union of many is a subset of a set, or disjoint from it, exactly if each is
+--     union_all_member, union_all_within, union_all_mono      the union of the sets that a function makes of the
+--         members of a set contains each of these sets, is a subset of each set that contains them all, and of the
+--         union for a superset
+--     .._is_subset, .._is_disjoint      a union of many sets is a subset of a set, or disjoint from it, exactly if each
+--         of the many is
 -- The ruleset `folds` has what `contains` returns, one more set, and one set after another.
 use Rattle.std.proofs.Common.{◌≡◌, ℕ, Bool, true, false, true≢false, not, ◌&&◌, ◌||◌, List, [], ◌∷◌, ◌++◌, map, fold, refl, sym, ap, subst, ◌∙◌, arith, Contains, ◌↔◌, ◌==◌, eq-eqb, eqb-true}
 use Rattle.std.proofs.lemmas.Bool.{or_left, or_right}
@@ -84,7 +86,7 @@ intersection_all_same s ts us same = same_set _ _ (λ q.
 
 -- ---- subsets and disjoint sets
 
--- a union of many is a subset of a set exactly if each is
+-- a union of many sets is a subset of a set exactly if each of the many is
 pub fold_is_subset : (s : BitSet) (ts : List BitSet) (u : BitSet) → is_subset (fold union s ts) u ≡ (is_subset s u && list_all (λ t. is_subset t u) ts)
 fold_is_subset s [] u = grind arith
 fold_is_subset s (t ∷ ts) u = fold_is_subset (union s t) ts u ∙ grind (arith, is_subset_union s t u)
@@ -94,7 +96,7 @@ unfolding union_all
 union_all_is_subset [] u = empty_is_subset u
 union_all_is_subset (s ∷ ss) u = is_subset_union s (union_all ss) u ∙ ap (λ b. is_subset s u && b) (union_all_is_subset ss u)
 
--- a union of many is disjoint from a set exactly if each is
+-- a union of many sets is disjoint from a set exactly if each of the many is
 pub fold_is_disjoint : (s : BitSet) (ts : List BitSet) (u : BitSet) → is_disjoint (fold union s ts) u ≡ (is_disjoint s u && list_all (λ t. is_disjoint t u) ts)
 fold_is_disjoint s [] u = grind arith
 fold_is_disjoint s (t ∷ ts) u = fold_is_disjoint (union s t) ts u ∙ grind (arith, is_disjoint_union s t u)
@@ -119,16 +121,17 @@ unfolding union_all
 rows_within f u [] each = empty_is_subset u
 rows_within f u (b ∷ bs) each = union_is_subset u (f b) (union_all (map f bs)) (each b (or_left (b == b) _ (eq-eqb b b refl))) (rows_within f u bs (λ c one. each c (or_right (c == b) _ one)))
 
--- the union has the set of each member
+-- the union contains the set of each member
 pub union_all_member : (f : ℕ → BitSet) (s : BitSet) (b : ℕ) → contains s b ≡ true → is_subset (f b) (union_all (map f (ascending s))) ≡ true
 union_all_member f s b one = row_in f b (ascending s) (sym (contains_ascending s b) ∙ one)
 
--- the union is within each set that has the set of each member
+-- the union is a subset of each set that contains the set of each member
 pub union_all_within : (f : ℕ → BitSet) (s u : BitSet) → ((b : ℕ) → contains s b ≡ true → is_subset (f b) u ≡ true) → is_subset (union_all (map f (ascending s))) u ≡ true
 union_all_within f s u each = rows_within f u (ascending s) (λ b one. each b (contains_ascending s b ∙ one))
 
--- a greater set has a greater union
+-- the union for a subset is a subset of the union
 pub union_all_mono : (f : ℕ → BitSet) (s t : BitSet) → is_subset s t ≡ true → is_subset (union_all (map f (ascending s))) (union_all (map f (ascending t))) ≡ true
 union_all_mono f s t within = union_all_within f s _ (λ b one. union_all_member f t b (is_subset_contains s t within b one))
 
+-- what it proves: which members a fold of a list of sets has
 pub ruleset folds = (contains_intersection_all, contains_union_all, contains_fold_intersection, contains_fold_union, intersection_all_more, union_all_none, union_all_step)

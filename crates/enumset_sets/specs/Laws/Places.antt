@@ -1,9 +1,9 @@
 -- Laws of slices with a place for each variant of an enum, whose bits are its variants' places.
 --     range_below      the numbers of a range from 0 on are those below its end
---     valid_in_place, place_below      the valid bits are the numbers below the number of variants;  so is the bit of a
---         variant
---     passed_next, passed_whole      the bits that an iteration over all elements has passed, which are not listed any
---         more: after one more;  at its end
+--     valid_in_place, place_below      the valid bits are the numbers below the number of variants;  the bit of a
+--         variant is below this number
+--     passed_next, passed_whole      the bits that an iteration over all elements has passed, which are the valid bits
+--         that are not left: after one more;  at its end
 use Rattle.std.proofs.Common.{◌≡◌, ◌<◌, ◌+◌, ℕ, zero, suc, true, ◌&&◌, nat_le, nat_lt, List, [], ◌∷◌, length, sym, ap, ◌∙◌, arith}
 use Rattle.std.proofs.lemmas.Bool.{ltb-true}
 use Rattle.std.proofs.lemmas.Bool.Decides.{nat_tests}

@@ -1,6 +1,6 @@
 -- Laws of a loop that adds in rounds what a step leads to, and compares the sets before and after the round.
---     round_last, round_smaller      once the sets are the same, what is reached is the least closed set;  otherwise fewer
---         numbers are left
+--     round_last, round_smaller      if the round added nothing, what is reached is the least closed set;  otherwise
+--         fewer numbers are left
 --     round_last_len, round_smaller_len      the same, where the loop compares how many members the sets have
 use Rattle.std.proofs.Common.{◌≡◌, ◌<◌, ◌==◌, true, false, arith, sym, ◌∙◌}
 use Rattle.enumset_repr.specs.BitSet.{BitSet, len, union, difference, is_subset, is_same}

@@ -98,7 +98,7 @@ module _ {T : Type 0} (bit : T → ℕ) where
 
 -- ---- the text of a set if the text of each valid bit is known
 
--- the text is known and is the second
+-- whether a text is known and is the given one
 abbrev pub is_text : Option (List ℕ) → List ℕ → Bool
 is_text None text = false
 is_text (Some t) text = bytes_eq t text

@@ -1,7 +1,7 @@
--- Rules for a search: which bits the folds of a list of sets have, wherever the fold and the number are in sight. They go
--- with `decided` of `enumset_repr`: the first lines of its file say why a rule has a dummy variable.
+-- Rules for a search: which bits the folds of a list of sets have, wherever the fold and the number are in sight. They
+-- go with `decided` of `enumset_repr`: the first lines of its file say why a rule has a dummy variable.
 --     .._once      which bits a fold has
--- The ruleset `folds_once` has these, subsets of folds, one more set, and one set after another.
+-- The ruleset `folds_once` has these, folds as subsets and as disjoint sets, one more set, and one set after another.
 use Rattle.std.proofs.Common.{◌≡◌, ℕ, Bool, ◌&&◌, ◌||◌, List, fold, refl}
 use Rattle.std.specs.List.{list_all, list_any}
 use Rattle.enumset_repr.specs.BitSet.{BitSet, contains, union, intersection}
@@ -18,4 +18,6 @@ fold_union_once s ts q w = (refl, refl, contains_fold_union s ts q)
 pub fold_intersection_once : (s : BitSet) (ts : List BitSet) (q : ℕ) (w : Bool) → (fold intersection s ts ≡ fold intersection s ts) × (at q w ≡ at q w) × (contains (fold intersection s ts) q ≡ (contains s q && list_all (λ t. contains t q) ts))
 fold_intersection_once s ts q w = (refl, refl, contains_fold_intersection s ts q)
 
+-- what it proves: which members a union or an intersection of a list of sets has, and whether it is a subset or
+-- disjoint
 pub ruleset folds_once = (union_all_once, fold_union_once, fold_intersection_once, fold_is_subset, union_all_is_subset, fold_is_disjoint, union_all_is_disjoint, intersection_all_more, union_all_none, union_all_step)

@@ -1,7 +1,7 @@
 -- Rules for a search: the valid bits. They go with `decided` and `counts` of `enumset_repr`. The first parts of a rule
 -- are always true: they show the search where to use it.
 --     len_valid      how many valid bits there are
---     len_within      a set of valid bits has at most as many members
+--     len_within      a set of valid bits has at most as many members as there are valid bits
 --     summed_at, sum_within      a sum over a set of valid bits is at most the sum over all of them
 --     valid_below      the valid bits as the numbers below a number, where such a set is in sight
 --     valid_retained      the valid bits as a list, where a part of them is in sight

@@ -48,8 +48,7 @@ impl<T: EnumSetType> EnumSet<T> {
         exact(T::Repr::from_u128(value))
     }
 
-    /// Returns the set with the bits of a number, if every bit is valid, which means that a variant has it, else
-    /// `None`.
+    /// Returns the set with the bits of a number, if every bit is valid (the bit of a variant), else `None`.
     #[tactic(auto, using(enumset_repr::specs::Laws::Algebra::is_subset_trans))]
     pub fn try_from_u128(value: u128) -> Option<EnumSet<T>>
         ensures valid { IsSome result

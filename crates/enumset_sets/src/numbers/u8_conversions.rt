@@ -47,8 +47,7 @@ impl<T: EnumSetType> EnumSet<T> {
         Self::from_u128(value as u128)
     }
 
-    /// Returns the set with the bits of a number, if every bit is valid, which means that a variant has it, else
-    /// `None`.
+    /// Returns the set with the bits of a number, if every bit is valid (the bit of a variant), else `None`.
     pub fn try_from_u8(value: u8) -> Option<EnumSet<T>>
         ensures valid { IsSome result
             ↔ IsTrue (set.is_subset (bits value) (valid_bits T.elements)) }

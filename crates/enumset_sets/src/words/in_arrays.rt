@@ -48,8 +48,8 @@ impl<T: EnumSetType> EnumSet<T> {
         exact(from_u64_array(array))
     }
 
-    /// Returns the set with the bits of words of 64 bits, the lowest first, if every bit is valid, which means that a
-    /// variant has it, else `None`.
+    /// Returns the set with the bits of words of 64 bits, the lowest first, if every bit is valid (the bit of a
+    /// variant), else `None`.
     #[tactic(auto, using(enumset_repr::specs::Laws::Algebra::is_subset_trans))]
     pub fn try_from_array<const O: usize>(array: [u64; O]) -> Option<EnumSet<T>>
         ensures valid { IsSome result

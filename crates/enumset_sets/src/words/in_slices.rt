@@ -53,8 +53,8 @@ impl<T: EnumSetType> EnumSet<T> {
         exact(T::Repr::from_u64_slice(slice))
     }
 
-    /// Returns the set with the bits of words of 64 bits, the lowest first, if every bit is valid, which means that a
-    /// variant has it, else `None`.
+    /// Returns the set with the bits of words of 64 bits, the lowest first, if every bit is valid (the bit of a
+    /// variant), else `None`.
     #[tactic(auto, using(enumset_repr::specs::Laws::Algebra::is_subset_trans))]
     pub fn try_from_slice(slice: &[u64]) -> Option<EnumSet<T>>
         ensures valid { IsSome result

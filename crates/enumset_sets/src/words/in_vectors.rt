@@ -9,9 +9,9 @@ use enumset_repr::EnumSetTypeRepr;
 use std::alloc::{AllocError, Global};
 
 impl<T: EnumSetType> EnumSet<T> {
-    /// Returns the words of the set, of 64 bits each, the lowest first, as many as its representation has. Memory for
-    /// them is allocated once, and none where it has no word. If that fails, the call returns `AllocError`: the
-    /// contract says what is in the words, not when there is memory. Rust's call takes no allocator.
+    /// Returns the words of the set, of 64 bits each, the lowest first, as many as its representation has. Their memory
+    /// is allocated at once; a representation without words needs none. If there is no memory, the call returns
+    /// `AllocError`: the contract says what is in the words, not when there is memory. Rust's call takes no allocator.
     pub fn to_vec(&self, alloc: Global) -> Result<Vec<u64>, AllocError>
         ensures succeeds { T.Repr.PREFERRED_ARRAY_LEN ≡ 0 → IsOk result }
         ensures words { IfOk result (λ v. v.items ≡ words self.now T.Repr.PREFERRED_ARRAY_LEN) }

@@ -10,12 +10,12 @@ use enumset_repr::{
 };
 use std::process::Abort;
 
-/// The bits of a number that a representation has: none over zero words.
+/// The number of a set whose bits are below 7, as a representation keeps it: 0 over zero words.
 fn kept<R: EnumSetTypeRepr>(number: u8) -> u8 {
     if R::WIDTH == 0 { 0 } else { number }
 }
 
-/// The bit that a representation has, if it has one.
+/// A bit below 7 as the bit of a member, or `None` over zero words, where no set has members.
 fn kept_bit<R: EnumSetTypeRepr>(bit: u32) -> Option<u32> {
     (R::WIDTH != 0).then_some(bit)
 }

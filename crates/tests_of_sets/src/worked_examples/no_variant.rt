@@ -5,8 +5,8 @@ use crate::expect::expect;
 use enumset_sets::{EnumSet, EnumSetType};
 use std::process::Abort;
 
-/// The checker refuses a function that nothing can call, and nothing can make a value of such an enum. So only generic
-/// functions name its sets.
+/// Calls of the sets of an enum without variants. The checker rejects a function that nothing can call, and nothing can
+/// make a value of such an enum. So only generic functions name its sets.
 fn expect_nothing<T: EnumSetType>(rt: &impl Abort) {
     let (all, none) = (EnumSet::<T>::all(), EnumSet::<T>::empty());
     expect(rt, "all().is_empty()", all.is_empty(), true);

@@ -3,7 +3,7 @@ use Rattle.std.specs.Simd.Lanes.{zip2}
 use Rattle.enumset_array.proofs.WordLanes.{none_in}
 use Rattle.enumset_array.proofs.lanes.any_of.Given as goal
 
--- the lanes are 0 exactly if each result so far is
+-- the lanes are 0 exactly if each result so far is 0, and then so is `any`
 abbrev pub invariant-loop-chunk : goal.invariant-loop-chunk
 invariant-loop-chunk g l = none_in l.lanes ≡ none_in (take (4 * length l.yielded) (zip2 g.O.SetOperation.of_words l.words l.others))
 

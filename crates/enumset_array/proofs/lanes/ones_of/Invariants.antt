@@ -2,7 +2,7 @@ use Rattle.std.proofs.Common.{◌≡◌, ◌≤◌, ◌+◌, ◌*◌, ◌/◌, l
 use Rattle.enumset_array.proofs.RowWords.{bits_in}
 use Rattle.enumset_array.proofs.lanes.ones_of.Given as goal
 
--- the bits of the words so far are counted
+-- `ones` is the number of the bits of the words so far
 abbrev pub invariant-loop-a : goal.invariant-loop-a
 invariant-loop-a l = record {
   counted : l.ones ≡ bits_in (take (4 * l.a-index) l.words);

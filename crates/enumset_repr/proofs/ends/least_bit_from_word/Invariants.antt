@@ -3,7 +3,7 @@ use Rattle.enumset_repr.specs.Words.{word}
 use Rattle.enumset_repr.proofs.ZeroWords.{NoneIn}
 use Rattle.enumset_repr.proofs.ends.least_bit_from_word.Given as goal
 
--- each word so far is 0
+-- each word that a loop has passed is 0
 abbrev pub invariant-loop-left : goal.invariant-loop-left
 invariant-loop-left g l = (l.left ≤ l.len - l.from) × NoneIn (word (g.R.EnumSetTypeRepr.members l.repr)) l.from (l.len - l.left)
 

@@ -4,7 +4,7 @@ use Rattle.enumset_sets.specs.Elements.{valid_bits}
 use Rattle.enumset_sets.specs.FixedPoints.{LeadsBy, IsWorklist}
 use Rattle.enumset_sets.proofs.fixed_points.reachable.Given as goal
 
--- no element is both done and pending, and wherever the closure says to which each bit leads, this is a worklist
+-- no element is both done and pending, and for all rows by which the closure leads, the two sets are a worklist
 abbrev pub invariant-loop-element : goal.invariant-loop-element
 invariant-loop-element g l =
     (is_disjoint l.done l.pending ≡ true)

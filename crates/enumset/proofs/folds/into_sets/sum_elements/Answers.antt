@@ -3,7 +3,7 @@ use Rattle.std.specs.Iterator.{Drains}
 use Rattle.enumset_sets.specs.Laws.Folds.{all_of_extended}
 use Rattle.enumset.proofs.folds.into_sets.sum_elements.Goals as goal
 
--- what is known about a result that is `Ok`
+-- what is known of each `Ok` is known of a result that is `Ok`
 of_ok : {T E P : Type 0} (Q : E → Type 0) (r : Result T E) → MatchResult r (λ _. P) Q → IsOk r → P
 of_ok Q (Ok v) told ok = told
 of_ok Q (Err e) told ok = absurd (true≢false (sym ok))

@@ -4,7 +4,7 @@ use Rattle.enumset.proofs.JsonScans.{parted, found_if}
 use Rattle.enumset.proofs.set_json.scan.split_string.Goals as goal
 use Rattle.enumset.specs.JsonPlain.{Begins, IsPlain, IsPlainByte}
 
--- the text before a quote is all that is plain
+-- a plain text that a quote follows is the longest run of plain bytes at the front
 whole : (bytes string rest : List ℕ) (n : ℕ) → IsPlain string → IsPlain (take n bytes) → (Begins IsPlainByte (drop n bytes) → ⊥) → bytes ≡ string ++ 34 ∷ rest → (string ≡ take n bytes) × (drop n bytes ≡ 34 ∷ rest)
 whole bytes string rest n plain front most is =
     parted IsPlainByte string (take n bytes) (34 ∷ rest) (drop n bytes) plain front (λ quote. true≢false quote.0) most (sym is ∙ sym (take-append-drop n bytes))

@@ -4,6 +4,6 @@ use Rattle.enumset_repr.specs.Words.{words}
 use Rattle.enumset.proofs.set_json.words.write_words.Given as goal
 use Rattle.enumset.specs.Json.{number_value}
 
--- the words before this one are written
+-- the words before place i are written
 abbrev pub invariant-loop-i : goal.invariant-loop-i
 invariant-loop-i g l = map view l.all.items ≡ map number_value (words (g.R.EnumSetTypeRepr.members l.repr) l.i)

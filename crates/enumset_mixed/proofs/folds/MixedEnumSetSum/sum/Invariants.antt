@@ -2,6 +2,6 @@ use Rattle.std.proofs.Common.{◌≡◌}
 use Rattle.enumset_sets.specs.Folds.{union_all}
 use Rattle.enumset_mixed.proofs.folds.MixedEnumSetSum.sum.Given as goal
 
--- the sum so far has the members of the sets so far
+-- `all` is the union of the sets so far
 abbrev pub invariant-loop-set : goal.invariant-loop-set
 invariant-loop-set g l = l.all ≡ union_all l.yielded

@@ -5,7 +5,7 @@ use Rattle.enumset_repr.specs.Laws.WordLists.{words_none, words_more, word_past_
 use Rattle.enumset_repr.specs.Words.{word, words}
 use Rattle.enumset_repr.proofs.repr.EnumSetTypeRepr.to_u64_slice.Goals as goal
 
--- the place at i gets its word
+-- place i gets its word
 placed : (s : BitSet) (out : List ℕ) (i x : ℕ) → i < length out → take i out ≡ words s i → x ≡ word s i → take (i + 1) (set out i x) ≡ words s (i + 1)
 placed s out i x within before is = take_more_set out i x within ∙ (λ j. before j ++ is j ∷ []) ∙ sym (words_more s i)
 

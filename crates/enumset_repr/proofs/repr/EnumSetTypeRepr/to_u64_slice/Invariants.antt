@@ -2,7 +2,7 @@ use Rattle.std.proofs.Common.{◌≡◌, take}
 use Rattle.enumset_repr.specs.Words.{words}
 use Rattle.enumset_repr.proofs.repr.EnumSetTypeRepr.to_u64_slice.Given as goal
 
--- each place before this one has its word
+-- `out` has the words of the set up to place i, and then up to `place`
 abbrev pub invariant-loop-i : goal.invariant-loop-i
 invariant-loop-i g l = take l.i l.out ≡ words (g.Self.EnumSetTypeRepr.members l.self) l.i
 
