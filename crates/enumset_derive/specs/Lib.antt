@@ -1,3 +1,4 @@
+pub mod Items
 pub mod JsonNames
 pub mod Numbers
 pub mod Variants

@@ -1,13 +1,12 @@
 //! The element types of a source: its enums with their plans.
 
-use crate::fault::{Outcome, Reason, TokenFaults};
+use crate::fault::{Fault, Reading, Reason};
 use crate::plan::{
     EnumDeclaration, Implied, NamedVariant, Plan, Store, discriminant_after, discriminant_of,
     plan_enum,
 };
-use crate::report::{Note, Report};
+use crate::report::Report;
 use enumset_source::{Number, Place, Token};
-use std::alloc::Global;
 use std::collections::BTreeMap;
 
 const DROPPED: &str =
@@ -42,17 +41,18 @@ pub struct Element<'a, 'b> {
 
 /// Plans the enums as element types. Their faults are reported, and those of several enums together.
 pub fn elements_of<'a, 'b>(
-    alloc: Global,
+    report: &mut Report,
     enums: Vec<EnumDeclaration<'a, 'b>>,
-    report: &mut Report<'a, 'b>,
-) -> Outcome<Vec<Element<'a, 'b>>> {
-    test_names(alloc, &enums, report)?;
-    test_crate_names(&enums, report)?;
-    let mut elements = Vec::new(alloc);
+) -> Reading<Vec<Element<'a, 'b>>> {
+    test_names(report, &enums)?;
+    test_crate_names(report, &enums)?;
+    let mut elements = Vec::new(report.alloc);
     for declaration in enums {
         let past = past_place(&declaration);
-        test_order(&declaration, past, report)?;
-        match plan_enum(alloc, &declaration)? {
+        if let Some(place) = past {
+            test_order(report, &declaration, place)?;
+        }
+        match plan_enum(report.alloc, &declaration)? {
             Ok(plan) => elements.push(Element {
                 declaration,
                 plan,
@@ -86,47 +86,47 @@ fn is_past(number: Number) -> bool {
     }
 }
 
-/// Notes that the discriminants are left out, if one is not allowed. It is a fault if the enum derives an order.
-fn test_order(declaration: &EnumDeclaration, past: Option<Place>, report: &mut Report) -> Outcome {
-    let Some(place) = past else {
-        return Ok(());
-    };
-    report.note(Note::Text(place, DROPPED))?;
-    let order = declaration.derive("PartialOrd");
-    match order.or(declaration.derive("Ord")) {
-        Some(_) => report.fault(Reason::Text(ORDERED).at(place)),
-        None => Ok(()),
+/// Notes that the discriminants are left out, since the one at this place is not allowed. It is a fault if the enum
+/// derives an order.
+fn test_order(report: &mut Report, declaration: &EnumDeclaration, place: Place) -> Reading {
+    report.remark(place, DROPPED)?;
+    match (declaration.derive("PartialOrd"), declaration.derive("Ord")) {
+        (None, None) => Ok(()),
+        _ => report.fault(Reason::Text(ORDERED).at(place)),
     }
 }
 
 /// Reports names that differ only in case, and names that a module imports.
-fn test_names(alloc: Global, enums: &[EnumDeclaration], report: &mut Report) -> Outcome {
-    let mut names: BTreeMap<String, &Token> = BTreeMap::new(alloc);
+fn test_names(report: &mut Report, enums: &[EnumDeclaration]) -> Reading {
+    let mut names: BTreeMap<String, &Token> = BTreeMap::new(report.alloc);
     for declaration in enums {
         let name = &declaration.head.name;
-        let key = name.text.to_ascii_lowercase(alloc)?;
-        if let Some(first) = names.get(key.as_str()) {
-            let reason = match first.is(name.text) {
-                true => Reason::NameTwice(first.place),
-                false => Reason::OtherCase(first.place),
-            };
-            report.fault(reason.at(name.place))?;
+        let key = name.text.to_ascii_lowercase(report.alloc)?;
+        match names.insert(key, name)? {
+            Some(first) if first.is(name.text) => {
+                report.fault(Reason::NameTwice(first.place).at(name.place))?;
+            }
+            Some(first) => report.fault(Reason::OtherCase(first.place).at(name.place))?,
+            None => {}
         }
-        names.insert(key, name)?;
         if IMPORTED.contains(&name.text) {
-            report.fault(name.fault(TAKEN))?;
+            report.fault(Fault::at(name, TAKEN))?;
         }
     }
     Ok(())
 }
 
 /// Reports enums whose `crate_name` differs from the first enum's.
-fn test_crate_names(enums: &[EnumDeclaration], report: &mut Report) -> Outcome {
-    let first = enums.first().map_or("", |first| first.options.facade());
-    for declaration in enums {
-        if declaration.options.facade() != first {
-            let given = declaration.options.crate_name;
-            let place = given.map_or(declaration.head.name.place, |(_, place)| place);
+fn test_crate_names(report: &mut Report, enums: &[EnumDeclaration]) -> Reading {
+    let [first, others @ ..] = enums else {
+        return Ok(());
+    };
+    for other in others {
+        if other.options.facade() != first.options.facade() {
+            let place = match other.options.crate_name {
+                Some((_, place)) => place,
+                None => other.head.name.place,
+            };
             report.fault(Reason::Text(OTHER_CRATE).at(place))?;
         }
     }
@@ -137,17 +137,17 @@ impl Element<'_, '_> {
     /// The imports from `enumset` that a module may need, in order, each with whether this element type needs it.
     pub fn imports(&self) -> [(bool, &'static str); 8] {
         let options = &self.declaration.options;
-        let is_named = options.are_named();
+        let has_names = options.has_names();
         let has_form = options.serialized.is_some();
         let is_wide = matches!(self.plan.store, Store::Words(_));
         let has_macro = options.facade() != "enumset_sets";
         [
             (has_form || !options.leaves_out_operators, "EnumSet"),
-            (is_named, "EnumSetNames"),
+            (has_names, "EnumSetNames"),
             (true, "EnumSetType"),
             (self.is_narrow(), "EnumSetTypeWithRepr"),
             (is_wide, "internal::ArrayRepr"),
-            (is_named, "names_of"),
+            (has_names, "names_of"),
             (has_form, "set_json"),
             (has_macro && self.is_in_table(), "variant_of"),
         ]

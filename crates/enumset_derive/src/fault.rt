@@ -3,16 +3,12 @@
 ghost use Rattle.std.specs.Prelude.{◌≡◌};
 ghost use Rattle.enumset_derive.specs.Variants.{fault_at};
 
-mod token_faults;
-
-use enumset_source::{Place, TokenError};
+use enumset_source::{Kind, Place, Token, TokenError};
 use std::alloc::{AllocError, AllocFailed};
-use std::error::Error;
 use std::{fmt, io};
-pub use token_faults::TokenFaults;
 
 /// Why the program did not write the whole module. Its text is printed to standard error.
-#[derive(Debug, Drop)]
+#[derive(Drop)]
 pub enum DeriveError {
     /// The source has a fault.
     Fault(Fault),
@@ -34,19 +30,6 @@ impl fmt::Display for DeriveError {
             DeriveError::Stream(what, error) => write!(f, "{what}: {error}"),
             DeriveError::File(name, error) => write!(f, "{name}: {error}"),
         }
-    }
-}
-
-impl Error for DeriveError {}
-
-impl From<Fault> for DeriveError {
-    ghost use Rattle.std.specs.Prelude.{◌≡◌};
-    ghost use Rattle.enumset_derive.specs.declared.fault.DeriveError.TheVariants as error;
-
-    ghost from_gives = { λ fault e. e ≡ error.Fault fault };
-
-    fn from(fault: Fault) -> DeriveError {
-        DeriveError::Fault(fault)
     }
 }
 
@@ -89,8 +72,11 @@ impl<T: Drop> From<AllocFailed<T>> for DeriveError {
 /// The result of a step of the program.
 pub type Outcome<T = ()> = Result<T, DeriveError>;
 
+/// What a step of reading returns beside the faults that it reports, or an error if memory runs out.
+pub type Reading<T = ()> = Result<T, AllocError>;
+
 /// A fault of a source text, and where it is.
-#[derive(Clone, Copy, Debug)]
+#[derive(Clone, Copy)]
 pub struct Fault {
     pub place: Place,
     pub reason: Reason,
@@ -102,15 +88,13 @@ impl fmt::Display for Fault {
     }
 }
 
-impl Error for Fault {}
-
 /// What is wrong.
-#[derive(Clone, Copy, Debug)]
+#[derive(Clone, Copy)]
 pub enum Reason {
     /// A fault found while reading.
     Text(&'static str),
-    /// What is expected, and what was found.
-    Expected(&'static str, Found),
+    /// What is expected, and what was found: a token of this kind that begins with this character.
+    Expected(&'static str, Kind, char),
     /// What is given twice, such as an option, and where it was given first.
     GivenTwice(&'static str, Place),
     /// `map = "msb"` counts from the most significant bit of an integer, but `repr` is not an integer.
@@ -134,26 +118,25 @@ impl fmt::Display for Reason {
     fn fmt<W: fmt::Write>(&self, f: &mut fmt::Formatter<W>) -> fmt::Result {
         match self {
             Reason::Text(text) => write!(f, "{text}"),
-            Reason::Expected(what, found) => write!(f, "expected {what}, found {found}"),
-            Reason::GivenTwice(what, first) => write!(
-                f,
-                "this {what} was already given at {first}"
-            ),
+            Reason::Expected(what, Kind::Punct, found) if !found.is_ascii() => {
+                write!(f, "expected {what}, found U+{:04X}", u32::from(*found))
+            }
+            Reason::Expected(what, Kind::Punct, found) => {
+                write!(f, "expected {what}, found `{found}`")
+            }
+            Reason::Expected(what, kind, _) => write!(f, "expected {what}, found {kind}"),
+            Reason::GivenTwice(what, first) => {
+                write!(f, "this {what} was already given at {first}")
+            }
             Reason::IntegerMissing => write!(f, "`map = \"msb\"` needs `repr` to be an integer"),
             Reason::TooManyVariants => write!(f, "an enum may have at most 256 variants"),
             Reason::NameTwice(first) => write!(f, "this name was already given at {first}"),
             Reason::NotAMask => {
-                write!(
-                    f,
-                    "a mask must be a power of two; the empty set is `EnumSet::empty()`"
-                )
+                f.write_str("a mask must be a power of two; the empty set is `EnumSet::empty()`")
             }
-            Reason::PastGreatest => {
-                write!(
-                    f,
-                    "a bit must be from 0 to 65535; `map = \"compact\"` uses the places as bits"
-                )
-            }
+            Reason::PastGreatest => f.write_str(
+                "a bit must be from 0 to 65535; `map = \"compact\"` uses the places as bits",
+            ),
             Reason::ImpliedTooLarge => write!(f, "the implied discriminant is past 2^128"),
             Reason::PastRepresentation { bit, width } => {
                 write!(f, "`repr` is too small: bit {bit}, width {width}")
@@ -175,32 +158,6 @@ impl fmt::Display for Reason {
     }
 }
 
-/// What was found where something else is expected.
-#[derive(Clone, Copy, Debug)]
-pub enum Found {
-    Identifier,
-    Literal,
-    Lifetime,
-    Comment,
-    Punctuation(char),
-    /// The end of the source.
-    End,
-}
-
-impl fmt::Display for Found {
-    fn fmt<W: fmt::Write>(&self, f: &mut fmt::Formatter<W>) -> fmt::Result {
-        match self {
-            Found::Identifier => write!(f, "an identifier"),
-            Found::Literal => write!(f, "a literal"),
-            Found::Lifetime => write!(f, "a lifetime"),
-            Found::Comment => write!(f, "a comment"),
-            Found::Punctuation(character) if character.is_ascii() => write!(f, "`{character}`"),
-            Found::Punctuation(character) => write!(f, "U+{:04X}", u32::from(*character)),
-            Found::End => write!(f, "the end of the source"),
-        }
-    }
-}
-
 impl Reason {
     /// The fault for this reason at a place.
     pub fn at(self, place: Place) -> Fault
@@ -208,5 +165,18 @@ impl Reason {
     {
         let reason = self;
         Fault { place, reason }
+    }
+}
+
+impl Fault {
+    /// The fault with this text at a token.
+    pub fn at(token: &Token, text: &'static str) -> Fault {
+        Reason::Text(text).at(token.place)
+    }
+
+    /// The fault that a token is not what is expected.
+    pub fn unexpected(token: &Token, expected: &'static str) -> Fault {
+        let found = token.text.chars().next().unwrap_or(' ');
+        Reason::Expected(expected, token.kind, found).at(token.place)
     }
 }

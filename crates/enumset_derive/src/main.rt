@@ -18,10 +18,11 @@ mod write;
 
 use element::{Element, elements_of};
 use enumset_source::{Place, tokens_of};
-use fault::{DeriveError, Outcome, Reason};
+use fault::{DeriveError, Outcome, Reading, Reason};
+use items::items_of;
 use output::{Output, write_output};
-use read::{Source, read_source};
-use report::{Note, Report};
+use read::read_enums;
+use report::Report;
 use std::alloc::{AllocError, Global};
 use std::env::{self, Env};
 use std::io::{self, ErrorKind, Input, Print, Read};
@@ -135,14 +136,12 @@ fn derive<R: Input + Eprint + AllocGlobal>(rt: &R, request: &Request) -> Outcome
     read.map_err(|error| fault_of(error, DeriveError::Stream("reading failed", error)))?;
     let text = text_of(&input)?.replace(alloc, "\r\n", "\n")?;
     let tokens = tokens_of(alloc, text.as_str())?;
-    let Source {
-        docs,
-        enums,
-        mut report,
-    } = read_source(alloc, &tokens)?;
-    let elements = elements_of(alloc, enums, &mut report)?;
+    let (docs, items) = items_of(alloc, &tokens)?;
+    let mut report = Report::new(alloc);
+    let enums = read_enums(&mut report, &items)?;
+    let elements = elements_of(&mut report, enums)?;
     if request.bits.is_some() {
-        note_without_terms(&elements, &mut report)?;
+        note_without_terms(&mut report, &elements)?;
     }
     report.sort()?;
     for fault in &report.faults {
@@ -173,14 +172,14 @@ fn text_of(input: &[u8]) -> Outcome<&str> {
     let valid = input.utf8_chunks().next().map_or("", |chunk| chunk.valid());
     let end = valid.chars().fold(Place::BEGIN, Place::after);
     let fault = Reason::Text("these bytes are not valid UTF-8").at(end);
-    Ok(str::from_utf8(input).map_err(|_| fault)?)
+    str::from_utf8(input).map_err(|_| DeriveError::Fault(fault))
 }
 
 /// Notes the enums that have no terms for clauses.
-fn note_without_terms(elements: &[Element], report: &mut Report) -> Outcome {
+fn note_without_terms(report: &mut Report, elements: &[Element]) -> Reading {
     for element in elements {
         if !element.has_terms() {
-            report.note(Note::Text(element.declaration.head.name.place, ONLY_TESTS))?;
+            report.remark(element.declaration.head.name.place, ONLY_TESTS)?;
         }
     }
     Ok(())

@@ -1,36 +1,85 @@
 //! The report on a source, which is printed to standard error.
 
-use crate::fault::{DeriveError, Fault, Outcome};
+use crate::fault::{Fault, Reading};
 use enumset_source::{Place, Token, Written};
 use std::alloc::Global;
 use std::fmt;
 
 /// The report on a source. Standard error shows the faults, or if there are none, the notes.
 #[derive(Drop)]
-pub struct Report<'a, 'b> {
+pub struct Report {
+    /// What reading and planning allocate with.
+    pub alloc: Global,
     pub faults: Vec<Fault>,
-    pub notes: Vec<Note<'a, 'b>>,
+    pub notes: Vec<Note>,
 }
 
-impl<'a, 'b> Report<'a, 'b> {
-    pub fn new(alloc: Global) -> Report<'a, 'b> {
+/// A remark on a place in a source that is not a fault.
+#[derive(Drop)]
+pub enum Note {
+    /// An item that is left out: where it begins, its last line, and what it is.
+    Item(Place, u32, &'static str),
+    /// Any other remark: its place, and what is printed.
+    Other(Place, String),
+}
+
+impl Note {
+    /// The place that it is about.
+    fn place(&self) -> Place {
+        match self {
+            Note::Item(place, _, _) | Note::Other(place, _) => *place,
+        }
+    }
+}
+
+impl fmt::Display for Note {
+    fn fmt<W: fmt::Write>(&self, f: &mut fmt::Formatter<W>) -> fmt::Result {
+        match self {
+            Note::Item(first, last, what) if *last > first.line => {
+                write!(f, "lines {} to {last}: left out: {what}", first.line)
+            }
+            Note::Item(first, _, what) => write!(f, "line {}: left out: {what}", first.line),
+            Note::Other(_, text) => write!(f, "{text}"),
+        }
+    }
+}
+
+impl Report {
+    pub fn new(alloc: Global) -> Report {
         Report {
+            alloc,
             faults: Vec::new(alloc),
             notes: Vec::new(alloc),
         }
     }
 
-    /// Records a fault.
-    pub fn fault(&mut self, fault: Fault) -> Outcome {
+    /// Records a fault, so that reading goes on and finds others.
+    pub fn fault(&mut self, fault: Fault) -> Reading {
         Ok(self.faults.push(fault)?)
     }
 
-    /// Records a fault, so that reading goes on and finds others. Any other error is returned.
-    pub fn take(&mut self, error: DeriveError) -> Outcome {
-        match error {
-            DeriveError::Fault(fault) => self.fault(fault),
-            error => Err(error),
-        }
+    /// Records a note.
+    pub fn note(&mut self, note: Note) -> Reading {
+        Ok(self.notes.push(note)?)
+    }
+
+    /// Records a note with this text on a place.
+    pub fn remark(&mut self, place: Place, text: &str) -> Reading {
+        let text = format!(in self.alloc; "{place}: {text}")?;
+        self.note(Note::Other(place, text))
+    }
+
+    /// Notes that an attribute is left out.
+    pub fn leave_out(&mut self, attribute: &[Token]) -> Reading {
+        let place = attribute.first().map_or(Place::BEGIN, |first| first.place);
+        let why = match attribute {
+            [_, _, name, ..] if name.is("cfg_attr") => {
+                ": `cfg_attr` is not supported: write what you want of it without it"
+            }
+            _ => " has no meaning here",
+        };
+        let text = format!(in self.alloc; "{place}: left out: {}{why}", Written(attribute))?;
+        self.note(Note::Other(place, text))
     }
 
     /// Whether an item is left out.
@@ -39,80 +88,10 @@ impl<'a, 'b> Report<'a, 'b> {
         notes.any(|note| matches!(note, Note::Item(_, _, _)))
     }
 
-    /// Records a note.
-    pub fn note(&mut self, note: Note<'a, 'b>) -> Outcome {
-        Ok(self.notes.push(note)?)
-    }
-
     /// Sorts the faults and the notes by their places.
-    pub fn sort(&mut self) -> Outcome {
+    pub fn sort(&mut self) -> Reading {
         let order = |place: Place| (place.line, place.column);
         self.faults.sort_by_key(|fault| order(fault.place))?;
-        Ok(self.notes.sort_by_key(|note| order(note.place()))?)
-    }
-}
-
-/// A remark on a place in a source that is not a fault.
-#[derive(Drop)]
-pub enum Note<'a, 'b> {
-    /// An item that is left out: where it begins, its last line, and what it is.
-    Item(Place, u32, &'static str),
-    /// The place and the name of an element type inside such an item, and what the item is.
-    Inside(Place, &'a str, &'static str),
-    /// An attribute that is left out.
-    Attribute(Place, &'b [Token<'a>]),
-    /// A path in a derive that is left out.
-    Derive(Place, String),
-    Text(Place, &'static str),
-}
-
-impl Note<'_, '_> {
-    /// The place that it is about.
-    fn place(&self) -> Place {
-        match self {
-            Note::Item(place, _, _)
-            | Note::Inside(place, _, _)
-            | Note::Attribute(place, _)
-            | Note::Derive(place, _)
-            | Note::Text(place, _) => *place,
-        }
-    }
-}
-
-impl fmt::Display for Note<'_, '_> {
-    fn fmt<W: fmt::Write>(&self, f: &mut fmt::Formatter<W>) -> fmt::Result {
-        match self {
-            Note::Item(first, last, what) => {
-                let first = first.line;
-                match *last > first {
-                    true => write!(f, "lines {first} to {last}: left out: {what}"),
-                    false => write!(f, "line {first}: left out: {what}"),
-                }
-            }
-            Note::Inside(place, name, what) => {
-                let space = if name.is_empty() { "" } else { " " };
-                write!(
-                    f,
-                    "line {}: the element type{space}{name} is inside {what}: move it to the top level",
-                    place.line
-                )
-            }
-            Note::Attribute(place, tokens) => {
-                write!(f, "{place}: left out: {}", Written(*tokens))?;
-                f.write_str(match tokens {
-                    [_, _, name, ..] if name.is("cfg_attr") => {
-                        ": `cfg_attr` is not supported: write what you want of it without it"
-                    }
-                    _ => " has no meaning here",
-                })
-            }
-            Note::Derive(place, path) => {
-                write!(
-                    f,
-                    "{place}: left out: #[derive({path})] has no meaning here"
-                )
-            }
-            Note::Text(place, text) => write!(f, "{place}: {text}"),
-        }
+        self.notes.sort_by_key(|note| order(note.place()))
     }
 }

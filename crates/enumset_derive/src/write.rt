@@ -8,6 +8,7 @@ mod json;
 mod layout;
 mod names;
 mod operators;
+mod parsing;
 
 use crate::Request;
 use crate::element::Element;

@@ -1,11 +1,16 @@
 -- The text of a source, and places in it.
+--     has_text      whether a token has this text
 --     written      the text of tokens, with the spaces before them
 --     place_after      the place after a character at a place
 --     place_text      the text for a place
-use Rattle.std.specs.Prelude.{ℕ, ◌+◌, ◌-◌, ◌^◌, ◌==◌, min, List, [], ◌∷◌, ◌++◌, codes, if◌then◌else◌}
+use Rattle.std.specs.Prelude.{ℕ, Bool, ◌+◌, ◌-◌, ◌^◌, ◌==◌, min, List, [], ◌∷◌, ◌++◌, codes, if◌then◌else◌}
 use Rattle.std.specs.Fmt.{decimal}
+use Rattle.std.specs.Str.{bytes_eq}
 use Rattle.enumset_source.specs.declared.place.Place.{Place}
 use Rattle.enumset_source.specs.declared.tokens.Token.{Token}
+
+abbrev pub has_text : Token → List ℕ → Bool
+has_text t text = bytes_eq t.text.now text
 
 abbrev pub written : List Token → List ℕ
 written [] = []

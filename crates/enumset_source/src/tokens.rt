@@ -1,7 +1,7 @@
 //! The tokens of a source, each with the depth of its brackets.
 
 ghost use Rattle.std.specs.Prelude.{◌≡◌, ◌++◌, IfOk};
-ghost use Rattle.enumset_source.specs.Sources.{written};
+ghost use Rattle.enumset_source.specs.Sources.{written, has_text};
 
 mod scan;
 
@@ -29,6 +29,19 @@ pub enum Kind {
     Punct,
     /// The end of the source.
     End,
+}
+
+impl fmt::Display for Kind {
+    fn fmt<W: fmt::Write>(&self, f: &mut fmt::Formatter<W>) -> fmt::Result {
+        f.write_str(match self {
+            Kind::Comment | Kind::OuterDoc | Kind::InnerDoc => "a comment",
+            Kind::Ident => "an identifier",
+            Kind::Literal => "a literal",
+            Kind::Lifetime => "a lifetime",
+            Kind::Punct => "punctuation",
+            Kind::End => "the end of the source",
+        })
+    }
 }
 
 /// A token of a source, or a comment.
@@ -61,7 +74,9 @@ impl<'a> Token<'a> {
     }
 
     /// Whether the token has this text.
-    pub fn is(&self, text: &str) -> bool {
+    pub fn is(&self, text: &str) -> bool
+        ensures { result ≡ has_text self.now text.now }
+    {
         self.text == text
     }
 

@@ -92,127 +92,67 @@ impl std::fmt::Display for Letters {
     }
 }
 
-/// The intersection of `{self}` and `{rhs}`.
-impl std::ops::BitAnd for Letters {
+/// The intersection of `{self}` and the set that `rhs` becomes.
+impl<O: std::convert::Into<EnumSet<Letters>>> std::ops::BitAnd<O> for Letters {
     ghost use Rattle.std.specs.Prelude.{◌≡◌};
     ghost use Rattle.enumset_sets.specs.Sets as set;
 
     type Output = EnumSet<Letters>;
 
-    ghost bitand_gives = { λ a b r. r ≡ set.intersection
-        (set.only (⟦<Letters as EnumSetType>⟧.elements.bit a))
-        (set.only (⟦<Letters as EnumSetType>⟧.elements.bit b)) };
+    ghost bitand_gives = { λ a b r. (s t : set.BitSet)
+        × (s ≡ set.only (⟦<Letters as EnumSetType>⟧.elements.bit a))
+        × O.converts b t × (r ≡ set.intersection s t) };
 
-    fn bitand(self, rhs: Self) -> EnumSet<Self> {
-        EnumSet::only(self) & EnumSet::only(rhs)
+    fn bitand(self, rhs: O) -> EnumSet<Self> {
+        EnumSet::only(self).intersection(rhs.into())
     }
 }
 
-/// The intersection of `{self}` and `rhs`.
-impl std::ops::BitAnd<EnumSet<Letters>> for Letters {
+/// The union of `{self}` and the set that `rhs` becomes.
+impl<O: std::convert::Into<EnumSet<Letters>>> std::ops::BitOr<O> for Letters {
     ghost use Rattle.std.specs.Prelude.{◌≡◌};
     ghost use Rattle.enumset_sets.specs.Sets as set;
 
     type Output = EnumSet<Letters>;
 
-    ghost bitand_gives = { λ a b r. r ≡ set.intersection
-        (set.only (⟦<Letters as EnumSetType>⟧.elements.bit a)) b };
+    ghost bitor_gives = { λ a b r. (s t : set.BitSet)
+        × (s ≡ set.only (⟦<Letters as EnumSetType>⟧.elements.bit a))
+        × O.converts b t × (r ≡ set.union s t) };
 
-    fn bitand(self, rhs: EnumSet<Self>) -> EnumSet<Self> {
-        EnumSet::only(self) & rhs
+    fn bitor(self, rhs: O) -> EnumSet<Self> {
+        EnumSet::only(self).union(rhs.into())
     }
 }
 
-/// The union of `{self}` and `{rhs}`.
-impl std::ops::BitOr for Letters {
+/// The symmetric difference of `{self}` and the set that `rhs` becomes.
+impl<O: std::convert::Into<EnumSet<Letters>>> std::ops::BitXor<O> for Letters {
     ghost use Rattle.std.specs.Prelude.{◌≡◌};
     ghost use Rattle.enumset_sets.specs.Sets as set;
 
     type Output = EnumSet<Letters>;
 
-    ghost bitor_gives = { λ a b r. r ≡ set.union
-        (set.only (⟦<Letters as EnumSetType>⟧.elements.bit a))
-        (set.only (⟦<Letters as EnumSetType>⟧.elements.bit b)) };
+    ghost bitxor_gives = { λ a b r. (s t : set.BitSet)
+        × (s ≡ set.only (⟦<Letters as EnumSetType>⟧.elements.bit a))
+        × O.converts b t × (r ≡ set.symmetric_difference s t) };
 
-    fn bitor(self, rhs: Self) -> EnumSet<Self> {
-        EnumSet::only(self) | EnumSet::only(rhs)
+    fn bitxor(self, rhs: O) -> EnumSet<Self> {
+        EnumSet::only(self).symmetric_difference(rhs.into())
     }
 }
 
-/// The union of `{self}` and `rhs`.
-impl std::ops::BitOr<EnumSet<Letters>> for Letters {
+/// The difference of `{self}` and the set that `rhs` becomes.
+impl<O: std::convert::Into<EnumSet<Letters>>> std::ops::Sub<O> for Letters {
     ghost use Rattle.std.specs.Prelude.{◌≡◌};
     ghost use Rattle.enumset_sets.specs.Sets as set;
 
     type Output = EnumSet<Letters>;
 
-    ghost bitor_gives = { λ a b r. r ≡ set.union
-        (set.only (⟦<Letters as EnumSetType>⟧.elements.bit a)) b };
+    ghost sub_gives = { λ a b r. (s t : set.BitSet)
+        × (s ≡ set.only (⟦<Letters as EnumSetType>⟧.elements.bit a))
+        × O.converts b t × (r ≡ set.difference s t) };
 
-    fn bitor(self, rhs: EnumSet<Self>) -> EnumSet<Self> {
-        EnumSet::only(self) | rhs
-    }
-}
-
-/// The symmetric difference of `{self}` and `{rhs}`.
-impl std::ops::BitXor for Letters {
-    ghost use Rattle.std.specs.Prelude.{◌≡◌};
-    ghost use Rattle.enumset_sets.specs.Sets as set;
-
-    type Output = EnumSet<Letters>;
-
-    ghost bitxor_gives = { λ a b r. r ≡ set.symmetric_difference
-        (set.only (⟦<Letters as EnumSetType>⟧.elements.bit a))
-        (set.only (⟦<Letters as EnumSetType>⟧.elements.bit b)) };
-
-    fn bitxor(self, rhs: Self) -> EnumSet<Self> {
-        EnumSet::only(self) ^ EnumSet::only(rhs)
-    }
-}
-
-/// The symmetric difference of `{self}` and `rhs`.
-impl std::ops::BitXor<EnumSet<Letters>> for Letters {
-    ghost use Rattle.std.specs.Prelude.{◌≡◌};
-    ghost use Rattle.enumset_sets.specs.Sets as set;
-
-    type Output = EnumSet<Letters>;
-
-    ghost bitxor_gives = { λ a b r. r ≡ set.symmetric_difference
-        (set.only (⟦<Letters as EnumSetType>⟧.elements.bit a)) b };
-
-    fn bitxor(self, rhs: EnumSet<Self>) -> EnumSet<Self> {
-        EnumSet::only(self) ^ rhs
-    }
-}
-
-/// The difference of `{self}` and `{rhs}`.
-impl std::ops::Sub for Letters {
-    ghost use Rattle.std.specs.Prelude.{◌≡◌};
-    ghost use Rattle.enumset_sets.specs.Sets as set;
-
-    type Output = EnumSet<Letters>;
-
-    ghost sub_gives = { λ a b r. r ≡ set.difference
-        (set.only (⟦<Letters as EnumSetType>⟧.elements.bit a))
-        (set.only (⟦<Letters as EnumSetType>⟧.elements.bit b)) };
-
-    fn sub(self, rhs: Self) -> EnumSet<Self> {
-        EnumSet::only(self) - EnumSet::only(rhs)
-    }
-}
-
-/// The difference of `{self}` and `rhs`.
-impl std::ops::Sub<EnumSet<Letters>> for Letters {
-    ghost use Rattle.std.specs.Prelude.{◌≡◌};
-    ghost use Rattle.enumset_sets.specs.Sets as set;
-
-    type Output = EnumSet<Letters>;
-
-    ghost sub_gives = { λ a b r. r ≡ set.difference
-        (set.only (⟦<Letters as EnumSetType>⟧.elements.bit a)) b };
-
-    fn sub(self, rhs: EnumSet<Self>) -> EnumSet<Self> {
-        EnumSet::only(self) - rhs
+    fn sub(self, rhs: O) -> EnumSet<Self> {
+        EnumSet::only(self).difference(rhs.into())
     }
 }
 

@@ -69,127 +69,67 @@ impl EnumSetTypeWithRepr for Month {
     ghost narrow = { Prim.search rules };
 }
 
-/// The intersection of `{self}` and `{rhs}`.
-impl std::ops::BitAnd for Month {
+/// The intersection of `{self}` and the set that `rhs` becomes.
+impl<O: std::convert::Into<EnumSet<Month>>> std::ops::BitAnd<O> for Month {
     ghost use Rattle.std.specs.Prelude.{◌≡◌};
     ghost use Rattle.enumset.specs.Sets as set;
 
     type Output = EnumSet<Month>;
 
-    ghost bitand_gives = { λ a b r. r ≡ set.intersection
-        (set.only (⟦<Month as EnumSetType>⟧.elements.bit a))
-        (set.only (⟦<Month as EnumSetType>⟧.elements.bit b)) };
+    ghost bitand_gives = { λ a b r. (s t : set.BitSet)
+        × (s ≡ set.only (⟦<Month as EnumSetType>⟧.elements.bit a))
+        × O.converts b t × (r ≡ set.intersection s t) };
 
-    fn bitand(self, rhs: Self) -> EnumSet<Self> {
-        EnumSet::only(self) & EnumSet::only(rhs)
+    fn bitand(self, rhs: O) -> EnumSet<Self> {
+        EnumSet::only(self).intersection(rhs.into())
     }
 }
 
-/// The intersection of `{self}` and `rhs`.
-impl std::ops::BitAnd<EnumSet<Month>> for Month {
+/// The union of `{self}` and the set that `rhs` becomes.
+impl<O: std::convert::Into<EnumSet<Month>>> std::ops::BitOr<O> for Month {
     ghost use Rattle.std.specs.Prelude.{◌≡◌};
     ghost use Rattle.enumset.specs.Sets as set;
 
     type Output = EnumSet<Month>;
 
-    ghost bitand_gives = { λ a b r. r ≡ set.intersection
-        (set.only (⟦<Month as EnumSetType>⟧.elements.bit a)) b };
+    ghost bitor_gives = { λ a b r. (s t : set.BitSet)
+        × (s ≡ set.only (⟦<Month as EnumSetType>⟧.elements.bit a))
+        × O.converts b t × (r ≡ set.union s t) };
 
-    fn bitand(self, rhs: EnumSet<Self>) -> EnumSet<Self> {
-        EnumSet::only(self) & rhs
+    fn bitor(self, rhs: O) -> EnumSet<Self> {
+        EnumSet::only(self).union(rhs.into())
     }
 }
 
-/// The union of `{self}` and `{rhs}`.
-impl std::ops::BitOr for Month {
+/// The symmetric difference of `{self}` and the set that `rhs` becomes.
+impl<O: std::convert::Into<EnumSet<Month>>> std::ops::BitXor<O> for Month {
     ghost use Rattle.std.specs.Prelude.{◌≡◌};
     ghost use Rattle.enumset.specs.Sets as set;
 
     type Output = EnumSet<Month>;
 
-    ghost bitor_gives = { λ a b r. r ≡ set.union
-        (set.only (⟦<Month as EnumSetType>⟧.elements.bit a))
-        (set.only (⟦<Month as EnumSetType>⟧.elements.bit b)) };
+    ghost bitxor_gives = { λ a b r. (s t : set.BitSet)
+        × (s ≡ set.only (⟦<Month as EnumSetType>⟧.elements.bit a))
+        × O.converts b t × (r ≡ set.symmetric_difference s t) };
 
-    fn bitor(self, rhs: Self) -> EnumSet<Self> {
-        EnumSet::only(self) | EnumSet::only(rhs)
+    fn bitxor(self, rhs: O) -> EnumSet<Self> {
+        EnumSet::only(self).symmetric_difference(rhs.into())
     }
 }
 
-/// The union of `{self}` and `rhs`.
-impl std::ops::BitOr<EnumSet<Month>> for Month {
+/// The difference of `{self}` and the set that `rhs` becomes.
+impl<O: std::convert::Into<EnumSet<Month>>> std::ops::Sub<O> for Month {
     ghost use Rattle.std.specs.Prelude.{◌≡◌};
     ghost use Rattle.enumset.specs.Sets as set;
 
     type Output = EnumSet<Month>;
 
-    ghost bitor_gives = { λ a b r. r ≡ set.union
-        (set.only (⟦<Month as EnumSetType>⟧.elements.bit a)) b };
+    ghost sub_gives = { λ a b r. (s t : set.BitSet)
+        × (s ≡ set.only (⟦<Month as EnumSetType>⟧.elements.bit a))
+        × O.converts b t × (r ≡ set.difference s t) };
 
-    fn bitor(self, rhs: EnumSet<Self>) -> EnumSet<Self> {
-        EnumSet::only(self) | rhs
-    }
-}
-
-/// The symmetric difference of `{self}` and `{rhs}`.
-impl std::ops::BitXor for Month {
-    ghost use Rattle.std.specs.Prelude.{◌≡◌};
-    ghost use Rattle.enumset.specs.Sets as set;
-
-    type Output = EnumSet<Month>;
-
-    ghost bitxor_gives = { λ a b r. r ≡ set.symmetric_difference
-        (set.only (⟦<Month as EnumSetType>⟧.elements.bit a))
-        (set.only (⟦<Month as EnumSetType>⟧.elements.bit b)) };
-
-    fn bitxor(self, rhs: Self) -> EnumSet<Self> {
-        EnumSet::only(self) ^ EnumSet::only(rhs)
-    }
-}
-
-/// The symmetric difference of `{self}` and `rhs`.
-impl std::ops::BitXor<EnumSet<Month>> for Month {
-    ghost use Rattle.std.specs.Prelude.{◌≡◌};
-    ghost use Rattle.enumset.specs.Sets as set;
-
-    type Output = EnumSet<Month>;
-
-    ghost bitxor_gives = { λ a b r. r ≡ set.symmetric_difference
-        (set.only (⟦<Month as EnumSetType>⟧.elements.bit a)) b };
-
-    fn bitxor(self, rhs: EnumSet<Self>) -> EnumSet<Self> {
-        EnumSet::only(self) ^ rhs
-    }
-}
-
-/// The difference of `{self}` and `{rhs}`.
-impl std::ops::Sub for Month {
-    ghost use Rattle.std.specs.Prelude.{◌≡◌};
-    ghost use Rattle.enumset.specs.Sets as set;
-
-    type Output = EnumSet<Month>;
-
-    ghost sub_gives = { λ a b r. r ≡ set.difference
-        (set.only (⟦<Month as EnumSetType>⟧.elements.bit a))
-        (set.only (⟦<Month as EnumSetType>⟧.elements.bit b)) };
-
-    fn sub(self, rhs: Self) -> EnumSet<Self> {
-        EnumSet::only(self) - EnumSet::only(rhs)
-    }
-}
-
-/// The difference of `{self}` and `rhs`.
-impl std::ops::Sub<EnumSet<Month>> for Month {
-    ghost use Rattle.std.specs.Prelude.{◌≡◌};
-    ghost use Rattle.enumset.specs.Sets as set;
-
-    type Output = EnumSet<Month>;
-
-    ghost sub_gives = { λ a b r. r ≡ set.difference
-        (set.only (⟦<Month as EnumSetType>⟧.elements.bit a)) b };
-
-    fn sub(self, rhs: EnumSet<Self>) -> EnumSet<Self> {
-        EnumSet::only(self) - rhs
+    fn sub(self, rhs: O) -> EnumSet<Self> {
+        EnumSet::only(self).difference(rhs.into())
     }
 }
 

@@ -72,127 +72,67 @@ impl EnumSetNames for Feature {
     ghost named = { tt };
 }
 
-/// The intersection of `{self}` and `{rhs}`.
-impl std::ops::BitAnd for Feature {
+/// The intersection of `{self}` and the set that `rhs` becomes.
+impl<O: std::convert::Into<EnumSet<Feature>>> std::ops::BitAnd<O> for Feature {
     ghost use Rattle.std.specs.Prelude.{◌≡◌};
     ghost use Rattle.enumset.specs.Sets as set;
 
     type Output = EnumSet<Feature>;
 
-    ghost bitand_gives = { λ a b r. r ≡ set.intersection
-        (set.only (⟦<Feature as EnumSetType>⟧.elements.bit a))
-        (set.only (⟦<Feature as EnumSetType>⟧.elements.bit b)) };
+    ghost bitand_gives = { λ a b r. (s t : set.BitSet)
+        × (s ≡ set.only (⟦<Feature as EnumSetType>⟧.elements.bit a))
+        × O.converts b t × (r ≡ set.intersection s t) };
 
-    fn bitand(self, rhs: Self) -> EnumSet<Self> {
-        EnumSet::only(self) & EnumSet::only(rhs)
+    fn bitand(self, rhs: O) -> EnumSet<Self> {
+        EnumSet::only(self).intersection(rhs.into())
     }
 }
 
-/// The intersection of `{self}` and `rhs`.
-impl std::ops::BitAnd<EnumSet<Feature>> for Feature {
+/// The union of `{self}` and the set that `rhs` becomes.
+impl<O: std::convert::Into<EnumSet<Feature>>> std::ops::BitOr<O> for Feature {
     ghost use Rattle.std.specs.Prelude.{◌≡◌};
     ghost use Rattle.enumset.specs.Sets as set;
 
     type Output = EnumSet<Feature>;
 
-    ghost bitand_gives = { λ a b r. r ≡ set.intersection
-        (set.only (⟦<Feature as EnumSetType>⟧.elements.bit a)) b };
+    ghost bitor_gives = { λ a b r. (s t : set.BitSet)
+        × (s ≡ set.only (⟦<Feature as EnumSetType>⟧.elements.bit a))
+        × O.converts b t × (r ≡ set.union s t) };
 
-    fn bitand(self, rhs: EnumSet<Self>) -> EnumSet<Self> {
-        EnumSet::only(self) & rhs
+    fn bitor(self, rhs: O) -> EnumSet<Self> {
+        EnumSet::only(self).union(rhs.into())
     }
 }
 
-/// The union of `{self}` and `{rhs}`.
-impl std::ops::BitOr for Feature {
+/// The symmetric difference of `{self}` and the set that `rhs` becomes.
+impl<O: std::convert::Into<EnumSet<Feature>>> std::ops::BitXor<O> for Feature {
     ghost use Rattle.std.specs.Prelude.{◌≡◌};
     ghost use Rattle.enumset.specs.Sets as set;
 
     type Output = EnumSet<Feature>;
 
-    ghost bitor_gives = { λ a b r. r ≡ set.union
-        (set.only (⟦<Feature as EnumSetType>⟧.elements.bit a))
-        (set.only (⟦<Feature as EnumSetType>⟧.elements.bit b)) };
+    ghost bitxor_gives = { λ a b r. (s t : set.BitSet)
+        × (s ≡ set.only (⟦<Feature as EnumSetType>⟧.elements.bit a))
+        × O.converts b t × (r ≡ set.symmetric_difference s t) };
 
-    fn bitor(self, rhs: Self) -> EnumSet<Self> {
-        EnumSet::only(self) | EnumSet::only(rhs)
+    fn bitxor(self, rhs: O) -> EnumSet<Self> {
+        EnumSet::only(self).symmetric_difference(rhs.into())
     }
 }
 
-/// The union of `{self}` and `rhs`.
-impl std::ops::BitOr<EnumSet<Feature>> for Feature {
+/// The difference of `{self}` and the set that `rhs` becomes.
+impl<O: std::convert::Into<EnumSet<Feature>>> std::ops::Sub<O> for Feature {
     ghost use Rattle.std.specs.Prelude.{◌≡◌};
     ghost use Rattle.enumset.specs.Sets as set;
 
     type Output = EnumSet<Feature>;
 
-    ghost bitor_gives = { λ a b r. r ≡ set.union
-        (set.only (⟦<Feature as EnumSetType>⟧.elements.bit a)) b };
+    ghost sub_gives = { λ a b r. (s t : set.BitSet)
+        × (s ≡ set.only (⟦<Feature as EnumSetType>⟧.elements.bit a))
+        × O.converts b t × (r ≡ set.difference s t) };
 
-    fn bitor(self, rhs: EnumSet<Self>) -> EnumSet<Self> {
-        EnumSet::only(self) | rhs
-    }
-}
-
-/// The symmetric difference of `{self}` and `{rhs}`.
-impl std::ops::BitXor for Feature {
-    ghost use Rattle.std.specs.Prelude.{◌≡◌};
-    ghost use Rattle.enumset.specs.Sets as set;
-
-    type Output = EnumSet<Feature>;
-
-    ghost bitxor_gives = { λ a b r. r ≡ set.symmetric_difference
-        (set.only (⟦<Feature as EnumSetType>⟧.elements.bit a))
-        (set.only (⟦<Feature as EnumSetType>⟧.elements.bit b)) };
-
-    fn bitxor(self, rhs: Self) -> EnumSet<Self> {
-        EnumSet::only(self) ^ EnumSet::only(rhs)
-    }
-}
-
-/// The symmetric difference of `{self}` and `rhs`.
-impl std::ops::BitXor<EnumSet<Feature>> for Feature {
-    ghost use Rattle.std.specs.Prelude.{◌≡◌};
-    ghost use Rattle.enumset.specs.Sets as set;
-
-    type Output = EnumSet<Feature>;
-
-    ghost bitxor_gives = { λ a b r. r ≡ set.symmetric_difference
-        (set.only (⟦<Feature as EnumSetType>⟧.elements.bit a)) b };
-
-    fn bitxor(self, rhs: EnumSet<Self>) -> EnumSet<Self> {
-        EnumSet::only(self) ^ rhs
-    }
-}
-
-/// The difference of `{self}` and `{rhs}`.
-impl std::ops::Sub for Feature {
-    ghost use Rattle.std.specs.Prelude.{◌≡◌};
-    ghost use Rattle.enumset.specs.Sets as set;
-
-    type Output = EnumSet<Feature>;
-
-    ghost sub_gives = { λ a b r. r ≡ set.difference
-        (set.only (⟦<Feature as EnumSetType>⟧.elements.bit a))
-        (set.only (⟦<Feature as EnumSetType>⟧.elements.bit b)) };
-
-    fn sub(self, rhs: Self) -> EnumSet<Self> {
-        EnumSet::only(self) - EnumSet::only(rhs)
-    }
-}
-
-/// The difference of `{self}` and `rhs`.
-impl std::ops::Sub<EnumSet<Feature>> for Feature {
-    ghost use Rattle.std.specs.Prelude.{◌≡◌};
-    ghost use Rattle.enumset.specs.Sets as set;
-
-    type Output = EnumSet<Feature>;
-
-    ghost sub_gives = { λ a b r. r ≡ set.difference
-        (set.only (⟦<Feature as EnumSetType>⟧.elements.bit a)) b };
-
-    fn sub(self, rhs: EnumSet<Self>) -> EnumSet<Self> {
-        EnumSet::only(self) - rhs
+    fn sub(self, rhs: O) -> EnumSet<Self> {
+        EnumSet::only(self).difference(rhs.into())
     }
 }
 
@@ -214,10 +154,14 @@ impl std::ops::Not for Feature {
 }
 
 impl Feature {
-    ghost use Rattle.std.specs.Prelude.{◌≡◌, IfOk, IfErr};
+    ghost use Rattle.std.specs.Prelude.{◌≡◌, IfOk, IfErr, Some, string_bytes};
+    ghost use Rattle.serde_json.specs.Written.{compact_text};
+    ghost use Rattle.serde_json.specs.Read.{read};
     ghost use Rattle.serde_json.specs.View.{view};
     ghost use Rattle.enumset.specs.Names.{names_of};
     ghost use Rattle.enumset.specs.JsonNames.{list_value, set_of_list};
+    ghost use Rattle.enumset.specs.JsonPlain.{IsPlainList};
+    ghost use Rattle.enumset.specs.JsonReads.{value_read, IsResult, IsReadOf};
     ghost use Rattle.enumset.specs.declared.set_json.fault.JsonFault.TheVariants.{OutOfMemory};
     ghost use Rattle.enumset.specs.declared.set_json.unknown.Unknown.TheVariants as unknown;
 
@@ -245,5 +189,39 @@ impl Feature {
             unknown.Refuse (view value.now) }
     {
         set_json::from_list(value, set_json::Unknown::Refuse)
+    }
+
+    /// The string of `to_json`'s value, without spaces. The only fault is
+    /// [`set_json::JsonFault::OutOfMemory`].
+    pub fn to_json_text(
+        alloc: std::alloc::Global,
+        set: &EnumSet<Self>,
+    ) -> std::result::Result<std::string::String, set_json::JsonFault>
+        ensures text { IfOk result (λ text. string_bytes text
+            ≡ compact_text (list_value
+            (names_of ⟦<Feature as EnumSetType>⟧.elements ⟦<Feature as EnumSetNames>⟧.names) set.now)) }
+        ensures reads { IfOk result (λ text. read (string_bytes text)
+            ≡ Some (list_value
+            (names_of ⟦<Feature as EnumSetType>⟧.elements ⟦<Feature as EnumSetNames>⟧.names) set.now)) }
+        ensures fault { IfErr result (λ fault. fault ≡ OutOfMemory) }
+    {
+        set_json::to_list_text(alloc, set)
+    }
+
+    /// What `from_json` returns of the value that this string is read as. A name that no variant has is a fault.
+    ///
+    /// The faults are those of [`set_json::from_list_text`].
+    pub fn from_json_text(
+        alloc: std::alloc::Global,
+        text: &str,
+    ) -> std::result::Result<EnumSet<Self>, set_json::JsonFault>
+        ensures read { IsReadOf (set_of_list
+            (names_of ⟦<Feature as EnumSetType>⟧.elements ⟦<Feature as EnumSetNames>⟧.names)
+            unknown.Refuse) text.now result }
+        ensures plain { IsPlainList text.now → IsResult (value_read (set_of_list
+            (names_of ⟦<Feature as EnumSetType>⟧.elements ⟦<Feature as EnumSetNames>⟧.names)
+            unknown.Refuse) text.now) result }
+    {
+        set_json::from_list_text(alloc, text, set_json::Unknown::Refuse)
     }
 }

@@ -56,127 +56,67 @@ impl EnumSetTypeWithRepr for Permission {
     ghost narrow = { Prim.search rules };
 }
 
-/// The intersection of `{self}` and `{rhs}`.
-impl std::ops::BitAnd for Permission {
+/// The intersection of `{self}` and the set that `rhs` becomes.
+impl<O: std::convert::Into<EnumSet<Permission>>> std::ops::BitAnd<O> for Permission {
     ghost use Rattle.std.specs.Prelude.{◌≡◌};
     ghost use Rattle.enumset.specs.Sets as set;
 
     type Output = EnumSet<Permission>;
 
-    ghost bitand_gives = { λ a b r. r ≡ set.intersection
-        (set.only (⟦<Permission as EnumSetType>⟧.elements.bit a))
-        (set.only (⟦<Permission as EnumSetType>⟧.elements.bit b)) };
+    ghost bitand_gives = { λ a b r. (s t : set.BitSet)
+        × (s ≡ set.only (⟦<Permission as EnumSetType>⟧.elements.bit a))
+        × O.converts b t × (r ≡ set.intersection s t) };
 
-    fn bitand(self, rhs: Self) -> EnumSet<Self> {
-        EnumSet::only(self) & EnumSet::only(rhs)
+    fn bitand(self, rhs: O) -> EnumSet<Self> {
+        EnumSet::only(self).intersection(rhs.into())
     }
 }
 
-/// The intersection of `{self}` and `rhs`.
-impl std::ops::BitAnd<EnumSet<Permission>> for Permission {
+/// The union of `{self}` and the set that `rhs` becomes.
+impl<O: std::convert::Into<EnumSet<Permission>>> std::ops::BitOr<O> for Permission {
     ghost use Rattle.std.specs.Prelude.{◌≡◌};
     ghost use Rattle.enumset.specs.Sets as set;
 
     type Output = EnumSet<Permission>;
 
-    ghost bitand_gives = { λ a b r. r ≡ set.intersection
-        (set.only (⟦<Permission as EnumSetType>⟧.elements.bit a)) b };
+    ghost bitor_gives = { λ a b r. (s t : set.BitSet)
+        × (s ≡ set.only (⟦<Permission as EnumSetType>⟧.elements.bit a))
+        × O.converts b t × (r ≡ set.union s t) };
 
-    fn bitand(self, rhs: EnumSet<Self>) -> EnumSet<Self> {
-        EnumSet::only(self) & rhs
+    fn bitor(self, rhs: O) -> EnumSet<Self> {
+        EnumSet::only(self).union(rhs.into())
     }
 }
 
-/// The union of `{self}` and `{rhs}`.
-impl std::ops::BitOr for Permission {
+/// The symmetric difference of `{self}` and the set that `rhs` becomes.
+impl<O: std::convert::Into<EnumSet<Permission>>> std::ops::BitXor<O> for Permission {
     ghost use Rattle.std.specs.Prelude.{◌≡◌};
     ghost use Rattle.enumset.specs.Sets as set;
 
     type Output = EnumSet<Permission>;
 
-    ghost bitor_gives = { λ a b r. r ≡ set.union
-        (set.only (⟦<Permission as EnumSetType>⟧.elements.bit a))
-        (set.only (⟦<Permission as EnumSetType>⟧.elements.bit b)) };
+    ghost bitxor_gives = { λ a b r. (s t : set.BitSet)
+        × (s ≡ set.only (⟦<Permission as EnumSetType>⟧.elements.bit a))
+        × O.converts b t × (r ≡ set.symmetric_difference s t) };
 
-    fn bitor(self, rhs: Self) -> EnumSet<Self> {
-        EnumSet::only(self) | EnumSet::only(rhs)
+    fn bitxor(self, rhs: O) -> EnumSet<Self> {
+        EnumSet::only(self).symmetric_difference(rhs.into())
     }
 }
 
-/// The union of `{self}` and `rhs`.
-impl std::ops::BitOr<EnumSet<Permission>> for Permission {
+/// The difference of `{self}` and the set that `rhs` becomes.
+impl<O: std::convert::Into<EnumSet<Permission>>> std::ops::Sub<O> for Permission {
     ghost use Rattle.std.specs.Prelude.{◌≡◌};
     ghost use Rattle.enumset.specs.Sets as set;
 
     type Output = EnumSet<Permission>;
 
-    ghost bitor_gives = { λ a b r. r ≡ set.union
-        (set.only (⟦<Permission as EnumSetType>⟧.elements.bit a)) b };
+    ghost sub_gives = { λ a b r. (s t : set.BitSet)
+        × (s ≡ set.only (⟦<Permission as EnumSetType>⟧.elements.bit a))
+        × O.converts b t × (r ≡ set.difference s t) };
 
-    fn bitor(self, rhs: EnumSet<Self>) -> EnumSet<Self> {
-        EnumSet::only(self) | rhs
-    }
-}
-
-/// The symmetric difference of `{self}` and `{rhs}`.
-impl std::ops::BitXor for Permission {
-    ghost use Rattle.std.specs.Prelude.{◌≡◌};
-    ghost use Rattle.enumset.specs.Sets as set;
-
-    type Output = EnumSet<Permission>;
-
-    ghost bitxor_gives = { λ a b r. r ≡ set.symmetric_difference
-        (set.only (⟦<Permission as EnumSetType>⟧.elements.bit a))
-        (set.only (⟦<Permission as EnumSetType>⟧.elements.bit b)) };
-
-    fn bitxor(self, rhs: Self) -> EnumSet<Self> {
-        EnumSet::only(self) ^ EnumSet::only(rhs)
-    }
-}
-
-/// The symmetric difference of `{self}` and `rhs`.
-impl std::ops::BitXor<EnumSet<Permission>> for Permission {
-    ghost use Rattle.std.specs.Prelude.{◌≡◌};
-    ghost use Rattle.enumset.specs.Sets as set;
-
-    type Output = EnumSet<Permission>;
-
-    ghost bitxor_gives = { λ a b r. r ≡ set.symmetric_difference
-        (set.only (⟦<Permission as EnumSetType>⟧.elements.bit a)) b };
-
-    fn bitxor(self, rhs: EnumSet<Self>) -> EnumSet<Self> {
-        EnumSet::only(self) ^ rhs
-    }
-}
-
-/// The difference of `{self}` and `{rhs}`.
-impl std::ops::Sub for Permission {
-    ghost use Rattle.std.specs.Prelude.{◌≡◌};
-    ghost use Rattle.enumset.specs.Sets as set;
-
-    type Output = EnumSet<Permission>;
-
-    ghost sub_gives = { λ a b r. r ≡ set.difference
-        (set.only (⟦<Permission as EnumSetType>⟧.elements.bit a))
-        (set.only (⟦<Permission as EnumSetType>⟧.elements.bit b)) };
-
-    fn sub(self, rhs: Self) -> EnumSet<Self> {
-        EnumSet::only(self) - EnumSet::only(rhs)
-    }
-}
-
-/// The difference of `{self}` and `rhs`.
-impl std::ops::Sub<EnumSet<Permission>> for Permission {
-    ghost use Rattle.std.specs.Prelude.{◌≡◌};
-    ghost use Rattle.enumset.specs.Sets as set;
-
-    type Output = EnumSet<Permission>;
-
-    ghost sub_gives = { λ a b r. r ≡ set.difference
-        (set.only (⟦<Permission as EnumSetType>⟧.elements.bit a)) b };
-
-    fn sub(self, rhs: EnumSet<Self>) -> EnumSet<Self> {
-        EnumSet::only(self) - rhs
+    fn sub(self, rhs: O) -> EnumSet<Self> {
+        EnumSet::only(self).difference(rhs.into())
     }
 }
 

@@ -10,6 +10,7 @@ pub mod days;
 pub mod modes;
 pub mod nodes;
 pub mod permissions;
+pub mod points;
 pub mod states;
 pub mod tokens;
 pub mod verbs;

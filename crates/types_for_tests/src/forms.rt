@@ -56,11 +56,15 @@ impl EnumSetTypeWithRepr for Numbered {
 }
 
 impl Numbered {
-    ghost use Rattle.std.specs.Prelude.{◌≡◌, ◌↔◌, IsOk, IfOk, IfErr, IsTrue};
+    ghost use Rattle.std.specs.Prelude.{◌≡◌, ◌↔◌, ◌⊎◌, false, IsOk, IfOk, IfErr, Some, Err, IsTrue};
+    ghost use Rattle.std.specs.Prelude.{string_bytes, decimal};
     ghost use Rattle.enumset.specs.Sets.{is_subset, below, number, valid_bits};
+    ghost use Rattle.serde_json.specs.Read.{read};
     ghost use Rattle.serde_json.specs.View.{view};
     ghost use Rattle.enumset.specs.Json.{number_value, set_of_number};
-    ghost use Rattle.enumset.specs.declared.set_json.fault.JsonFault.TheVariants.{TooWide};
+    ghost use Rattle.enumset.specs.JsonPlain.{IsPlainNumber};
+    ghost use Rattle.enumset.specs.JsonReads.{value_read, IsResult, IsReadOf};
+    ghost use Rattle.enumset.specs.declared.set_json.fault.JsonFault.TheVariants.{TooWide, OutOfMemory};
     ghost use Rattle.enumset.specs.declared.set_json.unknown.Unknown.TheVariants as unknown;
 
     /// The set's number as a `u8`.
@@ -88,6 +92,43 @@ impl Numbered {
             unknown.Drop (view value.now) }
     {
         set_json::from_number(value, set_json::JsonWidth::U8, set_json::Unknown::Drop)
+    }
+
+    /// The string of `to_json`'s value, without spaces. The faults are [`set_json::JsonFault::TooWide`],
+    /// if a member is past its bits, and [`set_json::JsonFault::OutOfMemory`].
+    pub fn to_json_text(
+        alloc: std::alloc::Global,
+        set: &EnumSet<Self>,
+    ) -> std::result::Result<std::string::String, set_json::JsonFault>
+        ensures text { IfOk result (λ text. string_bytes text ≡ decimal (number set.now)) }
+        ensures reads { IfOk result (λ text. read (string_bytes text)
+            ≡ Some (number_value (number set.now))) }
+        ensures too_wide { (result ≡ Err TooWide) ↔ (is_subset set.now (below 8) ≡ false) }
+        ensures fault { IfErr result (λ fault. (fault ≡ TooWide) ⊎ (fault ≡ OutOfMemory)) }
+    {
+        set_json::to_number_text(alloc, set, set_json::JsonWidth::U8)
+    }
+
+    /// What `from_json` returns of the value that this string is read as. Bits that no variant has are left out.
+    ///
+    /// The faults are those of [`set_json::from_number_text`].
+    pub fn from_json_text(
+        alloc: std::alloc::Global,
+        text: &str,
+    ) -> std::result::Result<EnumSet<Self>, set_json::JsonFault>
+        ensures read { IsReadOf (set_of_number
+            (valid_bits ⟦<Numbered as EnumSetType>⟧.elements) 8
+            unknown.Drop) text.now result }
+        ensures plain { IsPlainNumber text.now → IsResult (value_read (set_of_number
+            (valid_bits ⟦<Numbered as EnumSetType>⟧.elements) 8
+            unknown.Drop) text.now) result }
+    {
+        set_json::from_number_text(
+            alloc,
+            text,
+            set_json::JsonWidth::U8,
+            set_json::Unknown::Drop,
+        )
     }
 }
 
@@ -135,10 +176,14 @@ impl EnumSetType for InWords {
 }
 
 impl InWords {
-    ghost use Rattle.std.specs.Prelude.{◌≡◌, IfOk, IfErr};
+    ghost use Rattle.std.specs.Prelude.{◌≡◌, IfOk, IfErr, Some, string_bytes};
     ghost use Rattle.enumset.specs.Sets.{words, valid_bits};
+    ghost use Rattle.serde_json.specs.Written.{compact_text};
+    ghost use Rattle.serde_json.specs.Read.{read};
     ghost use Rattle.serde_json.specs.View.{view};
     ghost use Rattle.enumset.specs.Json.{words_value, set_of_words};
+    ghost use Rattle.enumset.specs.JsonPlain.{IsPlainWords};
+    ghost use Rattle.enumset.specs.JsonReads.{value_read, IsResult, IsReadOf};
     ghost use Rattle.enumset.specs.declared.set_json.fault.JsonFault.TheVariants.{OutOfMemory};
     ghost use Rattle.enumset.specs.declared.set_json.unknown.Unknown.TheVariants as unknown;
 
@@ -165,6 +210,38 @@ impl InWords {
             unknown.Refuse (view value.now) }
     {
         set_json::from_words(value, set_json::Unknown::Refuse)
+    }
+
+    /// The string of `to_json`'s value, without spaces. The only fault is
+    /// [`set_json::JsonFault::OutOfMemory`].
+    pub fn to_json_text(
+        alloc: std::alloc::Global,
+        set: &EnumSet<Self>,
+    ) -> std::result::Result<std::string::String, set_json::JsonFault>
+        ensures text { IfOk result (λ text. string_bytes text
+            ≡ compact_text (words_value (words set.now 4))) }
+        ensures reads { IfOk result (λ text. read (string_bytes text)
+            ≡ Some (words_value (words set.now 4))) }
+        ensures fault { IfErr result (λ fault. fault ≡ OutOfMemory) }
+    {
+        set_json::to_words_text(alloc, set)
+    }
+
+    /// What `from_json` returns of the value that this string is read as. A bit that no variant has is a fault.
+    ///
+    /// The faults are those of [`set_json::from_words_text`].
+    pub fn from_json_text(
+        alloc: std::alloc::Global,
+        text: &str,
+    ) -> std::result::Result<EnumSet<Self>, set_json::JsonFault>
+        ensures read { IsReadOf (set_of_words
+            (valid_bits ⟦<InWords as EnumSetType>⟧.elements)
+            unknown.Refuse) text.now result }
+        ensures plain { IsPlainWords text.now → IsResult (value_read (set_of_words
+            (valid_bits ⟦<InWords as EnumSetType>⟧.elements)
+            unknown.Refuse) text.now) result }
+    {
+        set_json::from_words_text(alloc, text, set_json::Unknown::Refuse)
     }
 }
 
@@ -218,11 +295,15 @@ impl EnumSetTypeWithRepr for In32Bits {
 }
 
 impl In32Bits {
-    ghost use Rattle.std.specs.Prelude.{◌≡◌, ◌↔◌, IsOk, IfOk, IfErr, IsTrue};
+    ghost use Rattle.std.specs.Prelude.{◌≡◌, ◌↔◌, ◌⊎◌, false, IsOk, IfOk, IfErr, Some, Err, IsTrue};
+    ghost use Rattle.std.specs.Prelude.{string_bytes, decimal};
     ghost use Rattle.enumset.specs.Sets.{is_subset, below, number, valid_bits};
+    ghost use Rattle.serde_json.specs.Read.{read};
     ghost use Rattle.serde_json.specs.View.{view};
     ghost use Rattle.enumset.specs.Json.{number_value, set_of_number};
-    ghost use Rattle.enumset.specs.declared.set_json.fault.JsonFault.TheVariants.{TooWide};
+    ghost use Rattle.enumset.specs.JsonPlain.{IsPlainNumber};
+    ghost use Rattle.enumset.specs.JsonReads.{value_read, IsResult, IsReadOf};
+    ghost use Rattle.enumset.specs.declared.set_json.fault.JsonFault.TheVariants.{TooWide, OutOfMemory};
     ghost use Rattle.enumset.specs.declared.set_json.unknown.Unknown.TheVariants as unknown;
 
     /// The set's number as a `u32`.
@@ -250,5 +331,42 @@ impl In32Bits {
             unknown.Drop (view value.now) }
     {
         set_json::from_number(value, set_json::JsonWidth::U32, set_json::Unknown::Drop)
+    }
+
+    /// The string of `to_json`'s value, without spaces. The faults are [`set_json::JsonFault::TooWide`],
+    /// if a member is past its bits, and [`set_json::JsonFault::OutOfMemory`].
+    pub fn to_json_text(
+        alloc: std::alloc::Global,
+        set: &EnumSet<Self>,
+    ) -> std::result::Result<std::string::String, set_json::JsonFault>
+        ensures text { IfOk result (λ text. string_bytes text ≡ decimal (number set.now)) }
+        ensures reads { IfOk result (λ text. read (string_bytes text)
+            ≡ Some (number_value (number set.now))) }
+        ensures too_wide { (result ≡ Err TooWide) ↔ (is_subset set.now (below 32) ≡ false) }
+        ensures fault { IfErr result (λ fault. (fault ≡ TooWide) ⊎ (fault ≡ OutOfMemory)) }
+    {
+        set_json::to_number_text(alloc, set, set_json::JsonWidth::U32)
+    }
+
+    /// What `from_json` returns of the value that this string is read as. Bits that no variant has are left out.
+    ///
+    /// The faults are those of [`set_json::from_number_text`].
+    pub fn from_json_text(
+        alloc: std::alloc::Global,
+        text: &str,
+    ) -> std::result::Result<EnumSet<Self>, set_json::JsonFault>
+        ensures read { IsReadOf (set_of_number
+            (valid_bits ⟦<In32Bits as EnumSetType>⟧.elements) 32
+            unknown.Drop) text.now result }
+        ensures plain { IsPlainNumber text.now → IsResult (value_read (set_of_number
+            (valid_bits ⟦<In32Bits as EnumSetType>⟧.elements) 32
+            unknown.Drop) text.now) result }
+    {
+        set_json::from_number_text(
+            alloc,
+            text,
+            set_json::JsonWidth::U32,
+            set_json::Unknown::Drop,
+        )
     }
 }

@@ -78,10 +78,14 @@ impl EnumSetNames for NamedLetters {
 }
 
 impl NamedLetters {
-    ghost use Rattle.std.specs.Prelude.{◌≡◌, IfOk, IfErr};
+    ghost use Rattle.std.specs.Prelude.{◌≡◌, IfOk, IfErr, Some, string_bytes};
+    ghost use Rattle.serde_json.specs.Written.{compact_text};
+    ghost use Rattle.serde_json.specs.Read.{read};
     ghost use Rattle.serde_json.specs.View.{view};
     ghost use Rattle.enumset.specs.Names.{names_of};
     ghost use Rattle.enumset.specs.JsonNames.{list_value, set_of_list};
+    ghost use Rattle.enumset.specs.JsonPlain.{IsPlainList};
+    ghost use Rattle.enumset.specs.JsonReads.{value_read, IsResult, IsReadOf};
     ghost use Rattle.enumset.specs.declared.set_json.fault.JsonFault.TheVariants.{OutOfMemory};
     ghost use Rattle.enumset.specs.declared.set_json.unknown.Unknown.TheVariants as unknown;
 
@@ -109,6 +113,40 @@ impl NamedLetters {
             unknown.Drop (view value.now) }
     {
         set_json::from_list(value, set_json::Unknown::Drop)
+    }
+
+    /// The string of `to_json`'s value, without spaces. The only fault is
+    /// [`set_json::JsonFault::OutOfMemory`].
+    pub fn to_json_text(
+        alloc: std::alloc::Global,
+        set: &EnumSet<Self>,
+    ) -> std::result::Result<std::string::String, set_json::JsonFault>
+        ensures text { IfOk result (λ text. string_bytes text
+            ≡ compact_text (list_value
+            (names_of ⟦<NamedLetters as EnumSetType>⟧.elements ⟦<NamedLetters as EnumSetNames>⟧.names) set.now)) }
+        ensures reads { IfOk result (λ text. read (string_bytes text)
+            ≡ Some (list_value
+            (names_of ⟦<NamedLetters as EnumSetType>⟧.elements ⟦<NamedLetters as EnumSetNames>⟧.names) set.now)) }
+        ensures fault { IfErr result (λ fault. fault ≡ OutOfMemory) }
+    {
+        set_json::to_list_text(alloc, set)
+    }
+
+    /// What `from_json` returns of the value that this string is read as. Names that no variant has are left out.
+    ///
+    /// The faults are those of [`set_json::from_list_text`].
+    pub fn from_json_text(
+        alloc: std::alloc::Global,
+        text: &str,
+    ) -> std::result::Result<EnumSet<Self>, set_json::JsonFault>
+        ensures read { IsReadOf (set_of_list
+            (names_of ⟦<NamedLetters as EnumSetType>⟧.elements ⟦<NamedLetters as EnumSetNames>⟧.names)
+            unknown.Drop) text.now result }
+        ensures plain { IsPlainList text.now → IsResult (value_read (set_of_list
+            (names_of ⟦<NamedLetters as EnumSetType>⟧.elements ⟦<NamedLetters as EnumSetNames>⟧.names)
+            unknown.Drop) text.now) result }
+    {
+        set_json::from_list_text(alloc, text, set_json::Unknown::Drop)
     }
 }
 
@@ -190,10 +228,14 @@ impl EnumSetNames for LaterLetters {
 }
 
 impl LaterLetters {
-    ghost use Rattle.std.specs.Prelude.{◌≡◌, IfOk, IfErr};
+    ghost use Rattle.std.specs.Prelude.{◌≡◌, IfOk, IfErr, Some, string_bytes};
+    ghost use Rattle.serde_json.specs.Written.{compact_text};
+    ghost use Rattle.serde_json.specs.Read.{read};
     ghost use Rattle.serde_json.specs.View.{view};
     ghost use Rattle.enumset.specs.Names.{names_of};
     ghost use Rattle.enumset.specs.JsonNames.{map_value, set_of_map};
+    ghost use Rattle.enumset.specs.JsonPlain.{IsPlainMap};
+    ghost use Rattle.enumset.specs.JsonReads.{value_read, IsResult, IsReadOf};
     ghost use Rattle.enumset.specs.declared.set_json.fault.JsonFault.TheVariants.{OutOfMemory};
     ghost use Rattle.enumset.specs.declared.set_json.unknown.Unknown.TheVariants as unknown;
 
@@ -221,6 +263,41 @@ impl LaterLetters {
             unknown.Refuse (view value.now) }
     {
         set_json::from_map(value, set_json::Unknown::Refuse)
+    }
+
+    /// The string of `to_json`'s value, without spaces. The only fault is
+    /// [`set_json::JsonFault::OutOfMemory`].
+    pub fn to_json_text(
+        alloc: std::alloc::Global,
+        set: &EnumSet<Self>,
+    ) -> std::result::Result<std::string::String, set_json::JsonFault>
+        ensures text { IfOk result (λ text. string_bytes text
+            ≡ compact_text (map_value
+            (names_of ⟦<LaterLetters as EnumSetType>⟧.elements ⟦<LaterLetters as EnumSetNames>⟧.names) set.now)) }
+        ensures reads { IfOk result (λ text. read (string_bytes text)
+            ≡ Some (map_value
+            (names_of ⟦<LaterLetters as EnumSetType>⟧.elements ⟦<LaterLetters as EnumSetNames>⟧.names) set.now)) }
+        ensures fault { IfErr result (λ fault. fault ≡ OutOfMemory) }
+    {
+        set_json::to_map_text(alloc, set)
+    }
+
+    /// What `from_json` returns of the value that this string is read as. A name that no variant has is a fault.
+    ///
+    /// The faults are those of [`set_json::from_map_text`].
+    pub fn from_json_text(
+        alloc: std::alloc::Global,
+        text: &str,
+    ) -> std::result::Result<EnumSet<Self>, set_json::JsonFault>
+        ensures read { IsReadOf (set_of_map
+            (names_of ⟦<LaterLetters as EnumSetType>⟧.elements ⟦<LaterLetters as EnumSetNames>⟧.names)
+            unknown.Refuse) text.now result }
+        ensures plain { IsPlainMap
+            (names_of ⟦<LaterLetters as EnumSetType>⟧.elements ⟦<LaterLetters as EnumSetNames>⟧.names) text.now → IsResult (value_read (set_of_map
+            (names_of ⟦<LaterLetters as EnumSetType>⟧.elements ⟦<LaterLetters as EnumSetNames>⟧.names)
+            unknown.Refuse) text.now) result }
+    {
+        set_json::from_map_text(alloc, text, set_json::Unknown::Refuse)
     }
 }
 
@@ -291,10 +368,14 @@ impl EnumSetNames for NamedSparse {
 }
 
 impl NamedSparse {
-    ghost use Rattle.std.specs.Prelude.{◌≡◌, IfOk, IfErr};
+    ghost use Rattle.std.specs.Prelude.{◌≡◌, IfOk, IfErr, Some, string_bytes};
+    ghost use Rattle.serde_json.specs.Written.{compact_text};
+    ghost use Rattle.serde_json.specs.Read.{read};
     ghost use Rattle.serde_json.specs.View.{view};
     ghost use Rattle.enumset.specs.Names.{names_of};
     ghost use Rattle.enumset.specs.JsonNames.{list_value, set_of_list};
+    ghost use Rattle.enumset.specs.JsonPlain.{IsPlainList};
+    ghost use Rattle.enumset.specs.JsonReads.{value_read, IsResult, IsReadOf};
     ghost use Rattle.enumset.specs.declared.set_json.fault.JsonFault.TheVariants.{OutOfMemory};
     ghost use Rattle.enumset.specs.declared.set_json.unknown.Unknown.TheVariants as unknown;
 
@@ -322,5 +403,39 @@ impl NamedSparse {
             unknown.Drop (view value.now) }
     {
         set_json::from_list(value, set_json::Unknown::Drop)
+    }
+
+    /// The string of `to_json`'s value, without spaces. The only fault is
+    /// [`set_json::JsonFault::OutOfMemory`].
+    pub fn to_json_text(
+        alloc: std::alloc::Global,
+        set: &EnumSet<Self>,
+    ) -> std::result::Result<std::string::String, set_json::JsonFault>
+        ensures text { IfOk result (λ text. string_bytes text
+            ≡ compact_text (list_value
+            (names_of ⟦<NamedSparse as EnumSetType>⟧.elements ⟦<NamedSparse as EnumSetNames>⟧.names) set.now)) }
+        ensures reads { IfOk result (λ text. read (string_bytes text)
+            ≡ Some (list_value
+            (names_of ⟦<NamedSparse as EnumSetType>⟧.elements ⟦<NamedSparse as EnumSetNames>⟧.names) set.now)) }
+        ensures fault { IfErr result (λ fault. fault ≡ OutOfMemory) }
+    {
+        set_json::to_list_text(alloc, set)
+    }
+
+    /// What `from_json` returns of the value that this string is read as. Names that no variant has are left out.
+    ///
+    /// The faults are those of [`set_json::from_list_text`].
+    pub fn from_json_text(
+        alloc: std::alloc::Global,
+        text: &str,
+    ) -> std::result::Result<EnumSet<Self>, set_json::JsonFault>
+        ensures read { IsReadOf (set_of_list
+            (names_of ⟦<NamedSparse as EnumSetType>⟧.elements ⟦<NamedSparse as EnumSetNames>⟧.names)
+            unknown.Drop) text.now result }
+        ensures plain { IsPlainList text.now → IsResult (value_read (set_of_list
+            (names_of ⟦<NamedSparse as EnumSetType>⟧.elements ⟦<NamedSparse as EnumSetNames>⟧.names)
+            unknown.Drop) text.now) result }
+    {
+        set_json::from_list_text(alloc, text, set_json::Unknown::Drop)
     }
 }

@@ -644,10 +644,14 @@ impl EnumSetNames for Of256 {
 }
 
 impl Of256 {
-    ghost use Rattle.std.specs.Prelude.{◌≡◌, IfOk, IfErr};
+    ghost use Rattle.std.specs.Prelude.{◌≡◌, IfOk, IfErr, Some, string_bytes};
+    ghost use Rattle.serde_json.specs.Written.{compact_text};
+    ghost use Rattle.serde_json.specs.Read.{read};
     ghost use Rattle.serde_json.specs.View.{view};
     ghost use Rattle.enumset.specs.Names.{names_of};
     ghost use Rattle.enumset.specs.JsonNames.{list_value, set_of_list};
+    ghost use Rattle.enumset.specs.JsonPlain.{IsPlainList};
+    ghost use Rattle.enumset.specs.JsonReads.{value_read, IsResult, IsReadOf};
     ghost use Rattle.enumset.specs.declared.set_json.fault.JsonFault.TheVariants.{OutOfMemory};
     ghost use Rattle.enumset.specs.declared.set_json.unknown.Unknown.TheVariants as unknown;
 
@@ -675,5 +679,39 @@ impl Of256 {
             unknown.Drop (view value.now) }
     {
         set_json::from_list(value, set_json::Unknown::Drop)
+    }
+
+    /// The string of `to_json`'s value, without spaces. The only fault is
+    /// [`set_json::JsonFault::OutOfMemory`].
+    pub fn to_json_text(
+        alloc: std::alloc::Global,
+        set: &EnumSet<Self>,
+    ) -> std::result::Result<std::string::String, set_json::JsonFault>
+        ensures text { IfOk result (λ text. string_bytes text
+            ≡ compact_text (list_value
+            (names_of ⟦<Of256 as EnumSetType>⟧.elements ⟦<Of256 as EnumSetNames>⟧.names) set.now)) }
+        ensures reads { IfOk result (λ text. read (string_bytes text)
+            ≡ Some (list_value
+            (names_of ⟦<Of256 as EnumSetType>⟧.elements ⟦<Of256 as EnumSetNames>⟧.names) set.now)) }
+        ensures fault { IfErr result (λ fault. fault ≡ OutOfMemory) }
+    {
+        set_json::to_list_text(alloc, set)
+    }
+
+    /// What `from_json` returns of the value that this string is read as. Names that no variant has are left out.
+    ///
+    /// The faults are those of [`set_json::from_list_text`].
+    pub fn from_json_text(
+        alloc: std::alloc::Global,
+        text: &str,
+    ) -> std::result::Result<EnumSet<Self>, set_json::JsonFault>
+        ensures read { IsReadOf (set_of_list
+            (names_of ⟦<Of256 as EnumSetType>⟧.elements ⟦<Of256 as EnumSetNames>⟧.names)
+            unknown.Drop) text.now result }
+        ensures plain { IsPlainList text.now → IsResult (value_read (set_of_list
+            (names_of ⟦<Of256 as EnumSetType>⟧.elements ⟦<Of256 as EnumSetNames>⟧.names)
+            unknown.Drop) text.now) result }
+    {
+        set_json::from_list_text(alloc, text, set_json::Unknown::Drop)
     }
 }

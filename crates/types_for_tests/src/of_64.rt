@@ -180,11 +180,15 @@ impl EnumSetTypeWithRepr for Of64 {
 }
 
 impl Of64 {
-    ghost use Rattle.std.specs.Prelude.{◌≡◌, ◌↔◌, IsOk, IfOk, IfErr, IsTrue};
+    ghost use Rattle.std.specs.Prelude.{◌≡◌, ◌↔◌, ◌⊎◌, false, IsOk, IfOk, IfErr, Some, Err, IsTrue};
+    ghost use Rattle.std.specs.Prelude.{string_bytes, decimal};
     ghost use Rattle.enumset.specs.Sets.{is_subset, below, number, valid_bits};
+    ghost use Rattle.serde_json.specs.Read.{read};
     ghost use Rattle.serde_json.specs.View.{view};
     ghost use Rattle.enumset.specs.Json.{number_value, set_of_number};
-    ghost use Rattle.enumset.specs.declared.set_json.fault.JsonFault.TheVariants.{TooWide};
+    ghost use Rattle.enumset.specs.JsonPlain.{IsPlainNumber};
+    ghost use Rattle.enumset.specs.JsonReads.{value_read, IsResult, IsReadOf};
+    ghost use Rattle.enumset.specs.declared.set_json.fault.JsonFault.TheVariants.{TooWide, OutOfMemory};
     ghost use Rattle.enumset.specs.declared.set_json.unknown.Unknown.TheVariants as unknown;
 
     /// The set's number as a `u64`.
@@ -212,5 +216,42 @@ impl Of64 {
             unknown.Refuse (view value.now) }
     {
         set_json::from_number(value, set_json::JsonWidth::U64, set_json::Unknown::Refuse)
+    }
+
+    /// The string of `to_json`'s value, without spaces. The faults are [`set_json::JsonFault::TooWide`],
+    /// if a member is past its bits, and [`set_json::JsonFault::OutOfMemory`].
+    pub fn to_json_text(
+        alloc: std::alloc::Global,
+        set: &EnumSet<Self>,
+    ) -> std::result::Result<std::string::String, set_json::JsonFault>
+        ensures text { IfOk result (λ text. string_bytes text ≡ decimal (number set.now)) }
+        ensures reads { IfOk result (λ text. read (string_bytes text)
+            ≡ Some (number_value (number set.now))) }
+        ensures too_wide { (result ≡ Err TooWide) ↔ (is_subset set.now (below 64) ≡ false) }
+        ensures fault { IfErr result (λ fault. (fault ≡ TooWide) ⊎ (fault ≡ OutOfMemory)) }
+    {
+        set_json::to_number_text(alloc, set, set_json::JsonWidth::U64)
+    }
+
+    /// What `from_json` returns of the value that this string is read as. A bit that no variant has is a fault.
+    ///
+    /// The faults are those of [`set_json::from_number_text`].
+    pub fn from_json_text(
+        alloc: std::alloc::Global,
+        text: &str,
+    ) -> std::result::Result<EnumSet<Self>, set_json::JsonFault>
+        ensures read { IsReadOf (set_of_number
+            (valid_bits ⟦<Of64 as EnumSetType>⟧.elements) 64
+            unknown.Refuse) text.now result }
+        ensures plain { IsPlainNumber text.now → IsResult (value_read (set_of_number
+            (valid_bits ⟦<Of64 as EnumSetType>⟧.elements) 64
+            unknown.Refuse) text.now) result }
+    {
+        set_json::from_number_text(
+            alloc,
+            text,
+            set_json::JsonWidth::U64,
+            set_json::Unknown::Refuse,
+        )
     }
 }

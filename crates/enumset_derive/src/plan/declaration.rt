@@ -53,7 +53,7 @@ pub struct Derive<'a> {
     /// The last name of its path.
     pub name: &'a str,
     /// As it is written into the module.
-    pub path: &'static str,
+    pub path: &'a str,
     pub place: Place,
 }
 
@@ -126,6 +126,8 @@ pub struct Options<'a> {
     pub leaves_out_supertraits: bool,
     /// `display`: whether a `Display` that prints the variant's name is written.
     pub has_display: bool,
+    /// `parse`: whether a `FromStr` that reads the variant's name is written.
+    pub is_parsed: bool,
     /// `crate_name`: the name of the crate `enumset` in the code of the module. With the place of its value.
     pub crate_name: Option<(&'a str, Place)>,
 }
@@ -139,5 +141,10 @@ impl<'a> Options<'a> {
     /// Whether sets in JSON consist of the names of their elements.
     pub fn are_named(&self) -> bool {
         matches!(self.serialized, Some(Serialized::List | Serialized::Map))
+    }
+
+    /// Whether the element type has a list of names, for sets in JSON or for `parse`.
+    pub fn has_names(&self) -> bool {
+        self.are_named() || self.is_parsed
     }
 }

@@ -1,9 +1,9 @@
 //! Tells which comments and attributes of an enum and its variants are kept.
 
-use crate::fault::{Fault, Outcome, TokenFaults};
+use crate::fault::{Fault, Reading};
 use crate::items::Attribute;
 use crate::plan::{Derive, Line};
-use crate::report::{Note, Report};
+use crate::report::Report;
 use enumset_source::{Kind, Token};
 use std::alloc::{AllocError, Global};
 
@@ -37,17 +37,16 @@ enum Fate {
 
 /// The comments and attributes that are kept. Others are noted, unless they are read.
 pub(super) fn kept_lines<'a, 'b>(
-    alloc: Global,
-    report: &mut Report<'a, 'b>,
+    report: &mut Report,
     attributes: &[Attribute<'a, 'b>],
     setting: Setting<'_, 'a>,
-) -> Outcome<Vec<Line<'a, 'b>>> {
-    let mut lines = Vec::new(alloc);
+) -> Reading<Vec<Line<'a, 'b>>> {
+    let mut lines = Vec::new(report.alloc);
     for attribute in attributes {
         match fate_of(attribute, setting) {
             Ok(Fate::Kept) => lines.push(attribute.tokens)?,
-            Ok(Fate::LeftOut) => note_left_out(report, attribute)?,
-            Ok(Fate::Read) => lines.append(&mut comments_in(alloc, attribute.tokens)?)?,
+            Ok(Fate::LeftOut) => report.leave_out(attribute.tokens)?,
+            Ok(Fate::Read) => lines.append(&mut comments_in(report.alloc, attribute.tokens)?)?,
             Err(fault) => report.fault(fault)?,
         }
     }
@@ -59,38 +58,29 @@ pub(super) fn comments_in<'a, 'b>(
     alloc: Global,
     tokens: &'b [Token<'a>],
 ) -> Result<Vec<Line<'a, 'b>>, AllocError> {
-    let is_comment = |tokens: &Line| tokens.first().is_some_and(|first| first.is_comment());
+    let is_comment = |tokens: &Line| matches!(tokens, [first] if first.is_comment());
     tokens.chunks(1).filter(is_comment).collect(alloc)
-}
-
-/// Notes that an attribute is left out.
-fn note_left_out<'a, 'b>(report: &mut Report<'a, 'b>, attribute: &Attribute<'a, 'b>) -> Outcome {
-    match attribute.tokens.first() {
-        Some(first) => report.note(Note::Attribute(first.place, attribute.tokens)),
-        None => Ok(()),
-    }
 }
 
 /// What becomes of an attribute or of a comment next to it.
 fn fate_of(attribute: &Attribute, setting: Setting) -> Result<Fate, Fault> {
-    let [name, ..] = attribute.words() else {
-        return Ok(Fate::Kept);
-    };
+    let name = &attribute.name;
     let derives = |derive: &str| setting.derives.iter().any(|own| own.name == derive);
     let is_kept = match name.text {
+        _ if name.is_comment() => true,
         "derive" | "enumset" if !setting.is_variant => return Ok(Fate::Read),
         "serde" if derives("Serialize") || derives("Deserialize") => true,
         "serde" if setting.are_named => return Ok(Fate::Read),
         "default" => setting.is_variant && derives("Default"),
         "error" => derives("Error"),
         "doc" => is_doc(attribute),
-        "cfg" if setting.is_variant => return Err(name.fault(ON_VARIANT)),
+        "cfg" if setting.is_variant => return Err(Fault::at(name, ON_VARIANT)),
         "cfg" if !attribute.is_written(&["(", "test", ")", "]"]) => {
-            return Err(name.fault(CONFIGURATION));
+            return Err(Fault::at(name, CONFIGURATION));
         }
-        "cfg_attr" if attribute.calls("enumset") => return Err(name.fault(OPTIONS_ALONE)),
+        "cfg_attr" if attribute.calls("enumset") => return Err(Fault::at(name, OPTIONS_ALONE)),
         "cfg_attr" if setting.are_named && attribute.calls("serde") => {
-            return Err(name.fault(SERDE_ALONE));
+            return Err(Fault::at(name, SERDE_ALONE));
         }
         "cfg" | "deprecated" | "non_exhaustive" => true,
         "allow" | "warn" | "deny" | "forbid" | "expect" | "clippy" | "tactic" => true,
@@ -102,8 +92,8 @@ fn fate_of(attribute: &Attribute, setting: Setting) -> Result<Fate, Fault> {
 
 /// Whether an attribute `doc` has a text, or is `doc(hidden)`.
 fn is_doc(attribute: &Attribute) -> bool {
-    match attribute.words() {
-        [_, equal, text, _] if equal.is("=") => matches!(text.kind, Kind::Literal),
+    match attribute.words.as_slice() {
+        [equal, text, _] if equal.is("=") => matches!(text.kind, Kind::Literal),
         _ => attribute.is_written(&["(", "hidden", ")", "]"]),
     }
 }

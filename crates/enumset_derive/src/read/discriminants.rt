@@ -5,7 +5,7 @@ ghost use Rattle.enumset_source.specs.Literals.{before_type, number_written};
 ghost use Rattle.enumset_source.specs.Numbers.{signed_number};
 ghost use Rattle.enumset_source.specs.declared.tokens.Token.{Token};
 
-use crate::fault::{Fault, TokenFaults};
+use crate::fault::Fault;
 use crate::plan::Given;
 use enumset_source::{LiteralFault, Number, Token, read_literal};
 
@@ -35,7 +35,7 @@ pub(super) fn read_discriminant<'a>(
         }
         _ => Err(other),
     };
-    let (literal, number) = read.map_err(|text| begin.fault(text))?;
+    let (literal, number) = read.map_err(|text| Fault::at(begin, text))?;
     Ok(Given {
         place: begin.place,
         literal,

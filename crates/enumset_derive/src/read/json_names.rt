@@ -4,8 +4,8 @@ ghost use Rattle.std.specs.Prelude.{IfOk, string_bytes};
 ghost use Rattle.enumset_derive.specs.JsonNames.{IsJsonName};
 
 use super::options::value_of;
-use crate::fault::{Fault, Outcome, Reason, TokenFaults};
-use crate::items::Attribute;
+use crate::fault::{Fault, Reading, Reason};
+use crate::items::{Attribute, arguments_of};
 use crate::plan::{Rename, Variant};
 use crate::report::Report;
 use enumset_source::{Place, Style, Token, style_of, styled};
@@ -22,13 +22,8 @@ const WRONG_STYLE: &str =
 const NOT_PLAIN: &str = "a name in JSON must be printable ASCII without `\"` and `\\`";
 
 /// The style that `rename_all` gives to the names of an enum.
-pub(super) fn read_style(
-    alloc: Global,
-    report: &mut Report,
-    attributes: &[Attribute],
-) -> Outcome<Option<Style>> {
-    let given = read_names(alloc, report, attributes, false)?;
-    let Some((text, place)) = given else {
+pub(super) fn read_style(report: &mut Report, attributes: &[Attribute]) -> Reading<Option<Style>> {
+    let Some((text, place)) = read_name(report, attributes, false)? else {
         return Ok(None);
     };
     let style = style_of(text);
@@ -40,11 +35,10 @@ pub(super) fn read_style(
 
 /// The name that `rename` gives to a variant.
 pub(super) fn read_rename<'a>(
-    alloc: Global,
     report: &mut Report,
     attributes: &[Attribute<'a, '_>],
-) -> Outcome<Option<Rename<'a>>> {
-    let given = read_names(alloc, report, attributes, true)?;
+) -> Reading<Option<Rename<'a>>> {
+    let given = read_name(report, attributes, true)?;
     if let Some((_, place)) = given.filter(|(text, _)| !is_plain(text)) {
         report.fault(Reason::Text(NOT_PLAIN).at(place))?;
     }
@@ -52,35 +46,14 @@ pub(super) fn read_rename<'a>(
 }
 
 /// The last value of `rename_all`, or for a variant of `rename`. Anything else that changes names is a fault.
-fn read_names<'a>(
-    alloc: Global,
+fn read_name<'a>(
     report: &mut Report,
     attributes: &[Attribute<'a, '_>],
     is_variant: bool,
-) -> Outcome<Option<Rename<'a>>> {
+) -> Reading<Option<Rename<'a>>> {
     let mut given = None;
-    for attribute in attributes {
-        if attribute.is("serde") {
-            match attribute.arguments(alloc) {
-                Ok(arguments) => {
-                    given = last_name(report, &arguments, is_variant)?.or(given);
-                }
-                Err(error) => report.take(error)?,
-            }
-        }
-    }
-    Ok(given)
-}
-
-/// The last such value among the arguments of `serde`.
-fn last_name<'a>(
-    report: &mut Report,
-    arguments: &[&[Token<'a>]],
-    is_variant: bool,
-) -> Outcome<Option<Rename<'a>>> {
-    let mut given = None;
-    for argument in arguments {
-        match given_name(argument, is_variant) {
+    for argument in arguments_of(report, attributes, "serde")? {
+        match name_in(argument, is_variant) {
             Ok(name) => given = name.or(given),
             Err(fault) => report.fault(fault)?,
         }
@@ -89,22 +62,25 @@ fn last_name<'a>(
 }
 
 /// The value of `rename` or `rename_all` in an argument of `serde`, or `None` if the argument does not change names.
-fn given_name<'a>(argument: &[Token<'a>], is_variant: bool) -> Result<Option<Rename<'a>>, Fault> {
+fn name_in<'a>(argument: &[Token<'a>], is_variant: bool) -> Result<Option<Rename<'a>>, Fault> {
     let [name, rest @ ..] = argument else {
         return Ok(None);
     };
     match (name.text, is_variant) {
-        ("rename_all", false) | ("rename", true) => {}
         ("rename" | "rename_all_fields" | "deny_unknown_fields", false)
         | ("rename_all", true)
-        | ("crate" | "bound" | "expecting", _) => return Ok(None),
-        _ => return Err(name.fault(OTHER)),
+        | ("crate" | "bound" | "expecting", _) => Ok(None),
+        ("rename_all", false) | ("rename", true) if begins_value(rest) => {
+            let (value, text) = value_of(name, rest)?;
+            Ok(Some((text, value.place)))
+        }
+        _ => Err(Fault::at(name, OTHER)),
     }
-    if !rest.first().is_some_and(|next| next.is("=")) {
-        return Err(name.fault(OTHER));
-    }
-    let (value, text) = value_of(name, rest)?;
-    Ok(Some((text, value.place)))
+}
+
+/// Whether a value follows the name of an argument.
+fn begins_value(rest: &[Token]) -> bool {
+    matches!(rest, [equal, ..] if equal.is("="))
 }
 
 /// Whether a text can be a name in JSON as it is written.
@@ -116,24 +92,21 @@ fn is_plain(text: &str) -> bool {
 /// The names of the variants in JSON, in their order: the name given, or else the variant's own name in this style. Empty
 /// if each is the variant's own name. Names that are given twice are reported.
 pub(super) fn json_names(
-    alloc: Global,
     report: &mut Report,
     style: Option<Style>,
     variants: &[Variant],
-) -> Outcome<Vec<String>> {
-    let mut names: Vec<String> = Vec::new(alloc);
-    let mut places: BTreeMap<String, Place> = BTreeMap::new(alloc);
+) -> Reading<Vec<String>> {
+    let mut names: Vec<String> = Vec::new(report.alloc);
     if style.is_none() && variants.iter().all(|variant| variant.rename.is_none()) {
         return Ok(names);
     }
-    let style = style.unwrap_or(Style::Pascal);
+    let mut places: BTreeMap<String, Place> = BTreeMap::new(report.alloc);
     for variant in variants {
-        let name = json_name(alloc, style, variant)?;
+        let name = json_name(report.alloc, style.unwrap_or(Style::Pascal), variant)?;
         let place = variant.rename.map_or(variant.place, |(_, place)| place);
-        if let Some(first) = places.get(name.as_str()) {
-            report.fault(Reason::GivenTwice("name in JSON", *first).at(place))?;
+        if let Some(first) = places.insert(name.clone()?, place)? {
+            report.fault(Reason::GivenTwice("name in JSON", first).at(place))?;
         }
-        places.insert(name.clone()?, place)?;
         names.push(name)?;
     }
     Ok(names)

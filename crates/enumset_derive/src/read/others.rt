@@ -1,29 +1,59 @@
-//! Reports the items that are left out, and the element types inside them.
+//! The items that are left out, and the element types inside them.
 
-use crate::fault::Outcome;
+ghost use Rattle.std.specs.Prelude.{◌≡◌, IfOk, map};
+ghost use Rattle.std.specs.List.{filter};
+ghost use Rattle.enumset_derive.specs.Items.{is_left_out};
+
+use super::derives::is_element_type;
+use crate::fault::Reading;
 use crate::items::Item;
 use crate::report::{Note, Report};
 use enumset_source::Token;
+use std::alloc::{AllocError, Global};
 
-/// Notes that an item is left out, and the element types inside it. Imports and empty items are not noted.
-pub(super) fn leave_out<'a, 'b>(report: &mut Report<'a, 'b>, item: &Item<'a, 'b>) -> Outcome {
-    let (Some(first), [begin, ..], Some(last)) = (item.first(), item.tokens, item.tokens.last())
-    else {
+/// The items that are left out: all but element types, imports and empty items.
+pub(super) fn left_out<'s, 'a, 'b>(
+    alloc: Global,
+    items: &'s [Item<'a, 'b>],
+) -> Result<Vec<&'s Item<'a, 'b>>, AllocError>
+    ensures { IfOk result (λ left. map (λ i. i.now) left.items ≡ filter is_left_out items.now) }
+{
+    let mut left = Vec::new(alloc);
+    for item in items {
+        if is_left_out(item) {
+            left.push(item)?;
+        }
+    }
+    Ok(left)
+}
+
+/// Whether an item is left out.
+fn is_left_out(item: &Item) -> bool
+    ensures { result ≡ is_left_out item.now }
+{
+    match item.tokens {
+        [] => false,
+        [begin, ..] if begin.is("use") || begin.is(";") => false,
+        [begin, next, ..] if begin.is("extern") && next.is("crate") => false,
+        _ => !is_element_type(item),
+    }
+}
+
+/// Notes that an item is left out.
+pub(super) fn note_left_out(report: &mut Report, item: &Item) -> Reading {
+    let (Some(first), Some(last)) = (item.begin(), item.tokens.last()) else {
         return Ok(());
     };
-    let what = what_of(item);
-    match item.tokens {
-        _ if begin.is("use") || begin.is(";") => {}
-        [_, next, ..] if begin.is("extern") && next.is("crate") => {}
-        _ if item.is_inner() => report.note(Note::Attribute(begin.place, item.tokens))?,
-        _ => report.note(Note::Item(first.place, last.place.line, what))?,
+    if item.is_inner() {
+        return report.leave_out(item.tokens);
     }
-    note_inside(report, item.tokens, what)
+    report.note(Note::Item(first.place, last.place.line, what_of(item)))
 }
 
 /// What an item is, by its keyword.
 fn what_of(item: &Item) -> &'static str {
-    let keyword = match item.words() {
+    let (_, words) = item.visibility();
+    let keyword = match words {
         [_, not, ..] if not.is("!") => return "a macro",
         [_, keyword, ..] if matches!(keyword.text, "fn" | "impl" | "trait") => keyword,
         [keyword, ..] => keyword,
@@ -43,15 +73,12 @@ fn what_of(item: &Item) -> &'static str {
     }
 }
 
-/// Notes the element types inside an item.
-fn note_inside<'a, 'b>(
-    report: &mut Report<'a, 'b>,
-    tokens: &'b [Token<'a>],
-    what: &'static str,
-) -> Outcome {
+/// Notes the element types inside an item that is not one.
+pub(super) fn note_inside(report: &mut Report, item: &Item) -> Reading {
+    let what = what_of(item);
     // The depth of the brackets of the current derive, and whether a derive since the last enum names `EnumSetType`.
     let (mut depth, mut is_derived) = (u32::MAX, false);
-    for [token, next] in tokens.array_windows::<2>() {
+    for [token, next] in item.tokens.array_windows::<2>() {
         if token.is("derive") && next.is("(") {
             depth = next.depth;
         } else if token.depth < depth {
@@ -59,9 +86,17 @@ fn note_inside<'a, 'b>(
         }
         is_derived |= depth < u32::MAX && token.is("EnumSetType");
         if is_derived && token.is("enum") && token.is_ident() {
-            let name = if next.is_ident() { next.text } else { "" };
-            report.note(Note::Inside(next.place, name, what))?;
             is_derived = false;
+            let (space, name) = if next.is_ident() {
+                (" ", next.text)
+            } else {
+                ("", "")
+            };
+            let line = next.place.line;
+            let text = format!(in report.alloc;
+                "line {line}: the element type{space}{name} is inside {what}: move it to the top level"
+            )?;
+            report.note(Note::Other(next.place, text))?;
         }
     }
     Ok(())

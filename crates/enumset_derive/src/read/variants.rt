@@ -3,36 +3,28 @@
 use super::attributes::{Setting, kept_lines};
 use super::discriminants::read_discriminant;
 use super::json_names::read_rename;
-use crate::fault::{Fault, Outcome, TokenFaults};
-use crate::items::{Attribute, bracket_length};
+use crate::fault::{Fault, Reading};
+use crate::items::{Attribute, bracket_length, skip};
 use crate::plan::{Discriminant, Line, Options, Variant};
 use crate::report::Report;
 use enumset_source::{Kind, Map, Token};
-use std::alloc::Global;
 
 const RAW: &str = "raw identifiers are not supported: choose a name that is not a keyword";
 
 const NOT_ASCII: &str = "names must be ASCII";
 
-const A_VARIANT: &str = "a variant";
-
 /// The variants of an enum, and the comments after the last one.
-#[derive(Drop)]
-pub(super) struct Body<'a, 'b> {
-    pub variants: Vec<Variant<'a, 'b>>,
-    pub last_comments: Vec<Line<'a, 'b>>,
-}
+pub(super) type Body<'a, 'b> = (Vec<Variant<'a, 'b>>, Vec<Line<'a, 'b>>);
 
 /// Reads the variants of an enum. `body` has the tokens after its `{`, up to the `}`.
 pub(super) fn read_body<'a, 'b>(
-    alloc: Global,
-    report: &mut Report<'a, 'b>,
+    report: &mut Report,
     body: &'b [Token<'a>],
     options: &Options,
     setting: Setting<'_, 'a>,
-) -> Outcome<Body<'a, 'b>> {
-    let mut variants: Vec<Variant> = Vec::new(alloc);
-    let mut last_comments = Vec::new(alloc);
+) -> Reading<Body<'a, 'b>> {
+    let mut variants: Vec<Variant> = Vec::new(report.alloc);
+    let mut last_comments = Vec::new(report.alloc);
     let mut rest = body;
     for _ in 0..body.len() {
         // Too many variants are a fault of the plan, for which one too many is enough.
@@ -41,30 +33,29 @@ pub(super) fn read_body<'a, 'b>(
         }
         let length = variant_length(rest);
         let own = rest.get(..length).unwrap_or(rest);
-        rest = rest.get(length..).unwrap_or(&[]);
-        let (attributes, tokens) = Attribute::before(alloc, own)?;
+        rest = skip(rest, length);
+        let (attributes, tokens) = Attribute::before(report.alloc, own)?;
         let Some(name) = tokens.first() else {
             break;
         };
-        let lines = kept_lines(alloc, report, &attributes, setting)?;
-        let has_attribute = attributes.iter().any(|attribute| !attribute.is_comment());
-        if name.is("}") && !has_attribute {
+        let lines = kept_lines(report, &attributes, setting)?;
+        let are_comments = attributes
+            .iter()
+            .all(|attribute| attribute.name.is_comment());
+        if name.is("}") && are_comments {
             last_comments = lines;
             break;
         }
-        if let Some(mut variant) = read_variant(alloc, report, options, tokens)? {
+        if let Some(mut variant) = read_variant(report, options, tokens)? {
             variant.lines = lines;
             variant.is_apart = own.first().is_some_and(|first| first.is_after_empty_line());
             if setting.are_named {
-                variant.rename = read_rename(alloc, report, &attributes)?;
+                variant.rename = read_rename(report, &attributes)?;
             }
             variants.push(variant)?;
         }
     }
-    Ok(Body {
-        variants,
-        last_comments,
-    })
+    Ok((variants, last_comments))
 }
 
 /// The number of tokens in the variant at the beginning, with the comments after it on its line. For the last variant
@@ -74,39 +65,27 @@ fn variant_length(tokens: &[Token]) -> usize {
     let Some(comma) = tokens.iter().position(is_end) else {
         return tokens.len();
     };
-    let after = tokens.iter().skip(comma.saturating_add(1));
+    let length = comma.saturating_add(1);
     let is_beside = |token: &&Token| matches!(token.kind, Kind::Comment) && !token.begins_line();
-    after
-        .take_while(is_beside)
-        .count()
-        .saturating_add(comma)
-        .saturating_add(1)
+    let beside = tokens.iter().skip(length).take_while(is_beside);
+    beside.count().saturating_add(length)
 }
 
 /// Reads a variant, from its name to the comments after its punctuation, or returns `None` if it has no name.
 fn read_variant<'a, 'b>(
-    alloc: Global,
     report: &mut Report,
     options: &Options,
     tokens: &'b [Token<'a>],
-) -> Outcome<Option<Variant<'a, 'b>>> {
-    let (comments, words): (Vec<Token>, Vec<Token>) = (
-        tokens
-            .iter()
-            .filter(|token| token.is_comment())
-            .copied()
-            .collect(alloc)?,
-        tokens
-            .iter()
-            .filter(|token| !token.is_comment())
-            .copied()
-            .collect(alloc)?,
-    );
+) -> Reading<Option<Variant<'a, 'b>>> {
+    let alloc = report.alloc;
+    let comments = tokens.iter().filter(|token| token.is_comment());
+    let words = tokens.iter().filter(|token| !token.is_comment());
+    let words: Vec<Token> = words.copied().collect(alloc)?;
     let [name, rest @ ..] = words.as_slice() else {
         return Ok(None);
     };
     if !name.is_ident() {
-        report.fault(name.unexpected(A_VARIANT))?;
+        report.fault(Fault::unexpected(name, "a variant"))?;
         return Ok(None);
     }
     test_name(report, name)?;
@@ -125,7 +104,7 @@ fn read_variant<'a, 'b>(
         name: name.text,
         rename: None,
         discriminant,
-        comments: comments.iter().map(|comment| comment.text).collect(alloc)?,
+        comments: comments.map(|comment| comment.text).collect(alloc)?,
     }))
 }
 
@@ -138,33 +117,30 @@ fn discriminant_in<'a>(
     match rest {
         [end] if end.is_punct(",}") => Ok(Discriminant::Implied),
         [equal, value @ .., end] if equal.is("=") => {
-            let given = read_discriminant(value, end, has_masks)?;
-            Ok(Discriminant::Given(given))
+            read_discriminant(value, end, has_masks).map(Discriminant::Given)
         }
-        [next, ..] if next.is_punct("({") => Err(next.fault("a variant must not have fields")),
-        [next, ..] => Err(next.unexpected("`,` or `}`")),
-        [] => Err(name.unexpected("`,` or `}`")),
+        [next, ..] if next.is_punct("({") => Err(Fault::at(next, "a variant must not have fields")),
+        [next, ..] => Err(Fault::unexpected(next, "`,` or `}`")),
+        [] => Err(Fault::unexpected(name, "`,` or `}`")),
     }
 }
 
 /// The discriminant of a variant with a fault: implied if nothing follows its fields.
 fn discriminant_after_fields<'a>(rest: &[Token<'a>]) -> Discriminant<'a> {
     match rest {
-        [open, inside @ ..] if open.is_punct("({") => {
-            match rest.get(bracket_length(1, open, inside)..) {
-                Some([_]) => Discriminant::Implied,
-                _ => Discriminant::Unread,
-            }
+        [open, inside @ ..]
+            if open.is_punct("({") && bracket_length(2, open, inside) == rest.len() => {
+            Discriminant::Implied
         }
         _ => Discriminant::Unread,
     }
 }
 
 /// Reports a name that cannot be a name in Rattle.
-pub(super) fn test_name(report: &mut Report, name: &Token) -> Outcome {
+pub(super) fn test_name(report: &mut Report, name: &Token) -> Reading {
     match name.text {
-        text if text.starts_with("r#") => report.fault(name.fault(RAW)),
-        text if !text.is_ascii() => report.fault(name.fault(NOT_ASCII)),
+        text if text.starts_with("r#") => report.fault(Fault::at(name, RAW)),
+        text if !text.is_ascii() => report.fault(Fault::at(name, NOT_ASCII)),
         _ => Ok(()),
     }
 }

@@ -5,6 +5,7 @@ use super::json::write_json;
 use super::layout::{list_of, list_of_names, write_call, write_head};
 use super::names::{write_display, write_names};
 use super::operators::write_operators;
+use super::parsing::write_from_str;
 use super::{Subject, Text, Written, library_of};
 use crate::plan::Store;
 
@@ -28,11 +29,14 @@ pub(super) fn write_element_type(out: &mut String, subject: &Subject) -> Written
         out.push_str("    ghost use Rattle.std.proofs.Common.{rules};\n\n")?;
         out.push_str("    ghost narrow = { Prim.search rules };\n}")?;
     }
-    if options.are_named() {
+    if options.has_names() {
         write_names(out, subject)?;
     }
     if options.has_display {
         write_display(out, subject)?;
+    }
+    if options.is_parsed {
+        write_from_str(out, subject)?;
     }
     if !options.leaves_out_operators {
         write_operators(out, subject)?;

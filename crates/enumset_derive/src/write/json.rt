@@ -1,4 +1,4 @@
-//! Writes `to_json` and `from_json` for the sets of an element type.
+//! Writes `to_json` and `from_json` for the sets of an element type, and the same for strings of JSON.
 
 use super::layout::guard_of;
 use super::names::unknown_of;
@@ -7,13 +7,18 @@ use crate::plan::{Options, Plan, Store};
 use enumset_source::{IntegerType, Representation, Serialized};
 
 const OF_NUMBERS: &str =
-    "    ghost use Rattle.std.specs.Prelude.{◌≡◌, ◌↔◌, IsOk, IfOk, IfErr, IsTrue};
+    "    ghost use Rattle.std.specs.Prelude.{◌≡◌, ◌↔◌, ◌⊎◌, false, IsOk, IfOk, IfErr, Some, Err, IsTrue};
+    ghost use Rattle.std.specs.Prelude.{string_bytes, decimal};
     ghost use Rattle.enumset.specs.Sets.{is_subset, below, number, valid_bits};";
 
-const OF_WORDS: &str = "    ghost use Rattle.std.specs.Prelude.{◌≡◌, IfOk, IfErr};
-    ghost use Rattle.enumset.specs.Sets.{words, valid_bits};";
+const OF_WORDS: &str =
+    "    ghost use Rattle.std.specs.Prelude.{◌≡◌, IfOk, IfErr, Some, string_bytes};
+    ghost use Rattle.enumset.specs.Sets.{words, valid_bits};
+    ghost use Rattle.serde_json.specs.Written.{compact_text};";
 
-const OF_NAMES: &str = "    ghost use Rattle.std.specs.Prelude.{◌≡◌, IfOk, IfErr};";
+const OF_NAMES: &str =
+    "    ghost use Rattle.std.specs.Prelude.{◌≡◌, IfOk, IfErr, Some, string_bytes};
+    ghost use Rattle.serde_json.specs.Written.{compact_text};";
 
 const NAMES: &str = "Names.{names_of};
     ghost use Rattle.enumset.specs.JsonNames";
@@ -93,6 +98,24 @@ impl Form {
         }
     }
 
+    /// The part of the name of the test for strings that are read without a tree of values.
+    fn plain(self) -> &'static str {
+        match self {
+            Form::Number(_) => "Number",
+            Form::Words => "Words",
+            Form::List => "List",
+            Form::Map => "Map",
+        }
+    }
+
+    /// The imports of the faults.
+    fn faults(self) -> &'static str {
+        match self {
+            Form::Number(_) => "TooWide, OutOfMemory",
+            Form::Words | Form::List | Form::Map => "OutOfMemory",
+        }
+    }
+
     /// The last argument of the function of `set_json`, after a comma.
     fn argument(self, subject: &Subject) -> Text {
         match self {
@@ -142,27 +165,34 @@ fn unknown_doc(options: &Options) -> &'static str {
     }
 }
 
-/// Writes both functions. They name `Result` by its path, since the module may have a type with this name.
+/// Writes the four functions. They name `Result` and `String` by their paths, since the module may have types with these
+/// names.
 pub(super) fn write_json(out: &mut String, subject: &Subject, serialized: Serialized) -> Written {
     let form = Form::of(serialized, &subject.element.plan);
     let (own, guard) = (subject.name, guard_of(subject));
-    let (name, cited, definitions, fault) = (
+    let (name, plain, cited, definitions, faults) = (
         form.name(),
+        form.plain(),
         form.cited(),
         form.definitions(),
-        form.fault(),
+        form.faults(),
     );
     write!(
         out,
         "\n\n{guard}impl {own} {{
 {cited}
+    ghost use Rattle.serde_json.specs.Read.{{read}};
     ghost use Rattle.serde_json.specs.View.{{view}};
     ghost use Rattle.enumset.specs.{definitions}.{{{name}_value, set_of_{name}}};
-    ghost use Rattle.enumset.specs.declared.set_json.fault.JsonFault.TheVariants.{{{fault}}};
+    ghost use Rattle.enumset.specs.JsonPlain.{{IsPlain{plain}}};
+    ghost use Rattle.enumset.specs.JsonReads.{{value_read, IsResult, IsReadOf}};
+    ghost use Rattle.enumset.specs.declared.set_json.fault.JsonFault.TheVariants.{{{faults}}};
     ghost use Rattle.enumset.specs.declared.set_json.unknown.Unknown.TheVariants as unknown;\n\n"
     )?;
     write_to_json(out, subject, form)?;
     write_from_json(out, subject, form)?;
+    write_to_json_text(out, subject, form)?;
+    write_from_json_text(out, subject, form)?;
     out.push('}')
 }
 
@@ -222,6 +252,92 @@ fn write_from_json(out: &mut String, subject: &Subject, form: Form) -> Written {
             unknown.{unknown} (view value.now) }}
     {{
         set_json::from_{name}(value{argument}, set_json::Unknown::{unknown})
+    }}\n"
+    )
+}
+
+/// Writes `to_json_text`.
+fn write_to_json_text(out: &mut String, subject: &Subject, form: Form) -> Written {
+    let name = form.name();
+    out.push_str("\n    /// The string of `to_json`'s value, without spaces. ")?;
+    out.push_str(match form {
+        Form::Number(_) => {
+            "The faults are [`set_json::JsonFault::TooWide`],
+    /// if a member is past its bits, and [`set_json::JsonFault::OutOfMemory`]."
+        }
+        Form::Words | Form::List | Form::Map => {
+            "The only fault is\n    /// [`set_json::JsonFault::OutOfMemory`]."
+        }
+    })?;
+    out.push_str(
+        "\n    pub fn to_json_text(
+        alloc: std::alloc::Global,
+        set: &EnumSet<Self>,
+    ) -> std::result::Result<std::string::String, set_json::JsonFault>",
+    )?;
+    let (value, argument) = (form.value(subject)?, form.argument(subject)?);
+    match form {
+        Form::Number(_) => out.push_str(
+            "\n        ensures text { IfOk result (λ text. string_bytes text ≡ decimal (number set.now)) }",
+        )?,
+        Form::Words | Form::List | Form::Map => write!(
+            out,
+            "\n        ensures text {{ IfOk result (λ text. string_bytes text
+            ≡ compact_text ({name}_value{value})) }}"
+        )?,
+    }
+    write!(
+        out,
+        "\n        ensures reads {{ IfOk result (λ text. read (string_bytes text)
+            ≡ Some ({name}_value{value})) }}"
+    )?;
+    match form {
+        Form::Number(width) => write!(
+            out,
+            "\n        ensures too_wide {{ (result ≡ Err TooWide) ↔ (is_subset set.now (below {width}) ≡ false) }}
+        ensures fault {{ IfErr result (λ fault. (fault ≡ TooWide) ⊎ (fault ≡ OutOfMemory)) }}"
+        )?,
+        Form::Words | Form::List | Form::Map => {
+            out.push_str(
+                "\n        ensures fault { IfErr result (λ fault. fault ≡ OutOfMemory) }",
+            )?;
+        }
+    }
+    write!(
+        out,
+        "\n    {{
+        set_json::to_{name}_text(alloc, set{argument})
+    }}\n\n"
+    )
+}
+
+/// Writes `from_json_text`.
+fn write_from_json_text(out: &mut String, subject: &Subject, form: Form) -> Written {
+    let options = &subject.element.declaration.options;
+    let (name, plain) = (form.name(), form.plain());
+    let (doc, unknown) = (unknown_doc(options), unknown_of(options));
+    let (read_by, argument) = (form.read_by(subject)?, form.argument(subject)?);
+    let known = match form {
+        Form::Map => format!(in subject.alloc; "\n            {read_by}")?,
+        Form::Number(_) | Form::Words | Form::List => String::new(subject.alloc),
+    };
+    write!(
+        out,
+        "    /// What `from_json` returns of the value that this string is read as. {doc}
+    ///
+    /// The faults are those of [`set_json::from_{name}_text`].
+    pub fn from_json_text(
+        alloc: std::alloc::Global,
+        text: &str,
+    ) -> std::result::Result<EnumSet<Self>, set_json::JsonFault>
+        ensures read {{ IsReadOf (set_of_{name}
+            {read_by}
+            unknown.{unknown}) text.now result }}
+        ensures plain {{ IsPlain{plain}{known} text.now → IsResult (value_read (set_of_{name}
+            {read_by}
+            unknown.{unknown}) text.now) result }}
+    {{
+        set_json::from_{name}_text(alloc, text{argument}, set_json::Unknown::{unknown})
     }}\n"
     )
 }
