@@ -5,7 +5,7 @@
 //! if some line has none, and 2 if reading or writing fails.
 #![tactic(auto, using(enumset::specs::Sets::set_laws))]
 
-ghost use Rattle.std.specs.Prelude.{◌≡◌, ◌⊎◌, IfOk, IfErr};
+ghost use Rattle.std.specs.Prelude.{◌≡◌, ◌⊎◌, if◌then◌else◌, is_ok, IfOk, IfErr};
 ghost use Rattle.std.specs.Str.{chars};
 ghost use Rattle.example_expressions.specs.Answers.{column_of, IsValueOf, IsFaultOf};
 
@@ -47,24 +47,33 @@ fn column_at(line: &str, tokens: &[Token], place: usize) -> usize
     }
 }
 
-/// Answers each line, and returns whether each has a value.
-fn answer_all<R: Input + Print + AllocGlobal>(rt: &R) -> io::Result<bool> {
-    let mut all_have_values = true;
+/// Answers each line in turn.
+fn answer_all<R: Input + Print + AllocGlobal>(rt: &R) -> io::Result<ExitCode> {
+    let mut status = 0;
     for line in rt.lines(rt.alloc()) {
         let answer = answer(rt.alloc(), line?.as_str());
-        all_have_values &= answer.is_ok();
+        status = status_after(status, &answer);
         match answer {
             Ok(value) => println!(rt; "{value}")?,
             Err(fault) => println!(rt; "{fault}")?,
         }
     }
-    Ok(all_have_values)
+    Ok(ExitCode::from(status))
+}
+
+/// The exit status after one more line: 1 if it has no value, else what the status was.
+fn status_after(status: u8, answer: &Result<i64, Fault>) -> u8
+    ensures { result ≡ (if is_ok answer.now then status else 1) }
+{
+    match answer {
+        Ok(_) => status,
+        Err(_) => 1,
+    }
 }
 
 fn main(rt: HostRuntime) -> ExitCode {
     match answer_all(&rt) {
-        Ok(true) => ExitCode::SUCCESS,
-        Ok(false) => ExitCode::from(1),
+        Ok(status) => status,
         Err(error) => {
             let _ = eprintln!(rt; "example_expressions: {error}");
             ExitCode::from(2)

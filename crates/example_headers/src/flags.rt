@@ -1,14 +1,13 @@
 //! What this version does with a frame's flags.
 
-ghost use Rattle.std.specs.Prelude.{◌≡◌, ◌↔◌, true};
+ghost use Rattle.std.specs.Prelude.{◌≡◌};
 ghost use Rattle.enumset.specs.Sets as set;
-ghost use Rattle.enumset.specs.Sets.{bits, valid_bits};
 ghost use Rattle.example_headers.specs.Frames.{bit, known, reserved};
 
 use crate::flag::Flag;
 use crate::newer_flag::NewerFlag;
 use enumset::set::MixedEnumSet;
-use enumset::{EnumSet, EnumSetType, laws};
+use enumset::{EnumSet, laws};
 
 /// What this version does with the flags that it knows. It clears the request for a receipt, and marks the frame as
 /// relayed.
@@ -19,21 +18,6 @@ pub fn decide(flags: EnumSet<Flag>) -> EnumSet<Flag>
     decided.remove(Flag::WantsReceipt);
     decided.insert(Flag::Relayed);
     decided
-}
-
-/// The bits of a byte of flags that this version does not know.
-pub fn reserved_bits(byte: u8) -> u8
-    ensures { bits result ≡ reserved (bits byte) }
-{
-    byte & !EnumSet::<Flag>::all().as_u8()
-}
-
-/// Whether this version knows every flag of a byte.
-pub fn is_understood(byte: u8) -> bool
-    ensures { result ≡ true ↔ (set.is_subset (bits byte)
-        (valid_bits ⟦<Flag as EnumSetType>⟧.elements) ≡ true) }
-{
-    byte & !EnumSet::<Flag>::all().as_u8() == 0
 }
 
 /// The flags, with those that this version knows replaced by others. The reserved bits stay.
@@ -55,6 +39,8 @@ pub fn relay_flags(flags: MixedEnumSet<Flag>) -> MixedEnumSet<Flag>
 }
 
 /// The flags that a program of version 2 gets back from this version. What only version 2 knows is as it was sent.
+///
+/// The program does not call it. It carries the theorem that a relay of version 1 loses no bit of version 2.
 pub fn back_at_newer(sent: EnumSet<NewerFlag>) -> MixedEnumSet<NewerFlag>
     ensures known { known result
         ≡ set.insert (set.remove (known sent) (bit Flag.WantsReceipt)) (bit Flag.Relayed) }

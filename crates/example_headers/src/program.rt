@@ -1,6 +1,7 @@
 //! What the program does: its input and its output.
 
-ghost use Rattle.std.specs.Prelude.{◌<◌, length};
+ghost use Rattle.std.specs.Prelude.{◌≡◌, ◌<◌, length, IfOk};
+ghost use Rattle.std.specs.Process.{exit_status};
 
 use crate::digits::decode;
 use crate::frame::{Frame, read_frame, write_frame};
@@ -41,8 +42,10 @@ fn relay_frame<R: Print + Eprint + AllocGlobal>(
     println!(rt)
 }
 
-/// Says at which line the program stops, and why.
-fn stop(rt: &impl Eprint, number: u64, why: impl fmt::Display + Drop) -> io::Result<ExitCode> {
+/// Says at which line the program stops, and why. The exit status is then 2.
+fn stop(rt: &impl Eprint, number: u64, why: impl fmt::Display + Drop) -> io::Result<ExitCode>
+    ensures { IfOk result (λ status. exit_status status ≡ 2) }
+{
     eprintln!(rt; "example_headers: line {number}: {why}")?;
     Ok(ExitCode::from(2))
 }

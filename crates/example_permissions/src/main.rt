@@ -4,6 +4,9 @@
 //! status is 0 if all requests are allowed, 1 if one is denied, and 2 on a fault.
 #![tactic(auto, using(enumset::specs::Sets::set_laws))]
 
+ghost use Rattle.std.specs.Prelude.{◌≡◌, ◌≢◌, IfOk};
+ghost use Rattle.std.specs.Process.{exit_status};
+
 mod decision;
 mod fault;
 mod policy;
@@ -38,7 +41,7 @@ fn answer_requests<R>(rt: &R, policy: &Policy) -> io::Result<ExitCode>
 where
     R: Input + Print + Eprint + AllocGlobal,
 {
-    let mut status = ExitCode::SUCCESS;
+    let mut status = 0;
     for (line, number) in rt.lines(rt.alloc()).zip(1..=u64::MAX) {
         let decision = match policy.answer(rt.alloc(), line?.as_str()) {
             Ok(Some(decision)) => decision,
@@ -46,11 +49,20 @@ where
             Err(fault) => return stop(rt, format_args!("line {number}: {fault}")),
         };
         println!(rt; "{decision}")?;
-        if decision != Decision::Allowed {
-            status = ExitCode::from(1);
-        }
+        status = status_after(status, &decision);
     }
-    Ok(status)
+    Ok(ExitCode::from(status))
+}
+
+/// The exit status after one more decision: 1 if it is a denial, else what the status was.
+fn status_after(status: u8, decision: &Decision) -> u8
+    ensures allowed { decision.now ≡ Decision.Allowed → result ≡ status }
+    ensures denied { decision.now ≢ Decision.Allowed → result ≡ 1 }
+{
+    match decision {
+        Decision::Allowed => status,
+        Decision::Denied(_) => 1,
+    }
 }
 
 fn read_policy<R: Files + AllocGlobal>(rt: &R, path: &str) -> Result<Policy, Fault> {
@@ -58,8 +70,10 @@ fn read_policy<R: Files + AllocGlobal>(rt: &R, path: &str) -> Result<Policy, Fau
     Policy::from_json(rt.alloc(), text.as_str())
 }
 
-/// Says why the program stops.
-fn stop(rt: &impl Eprint, why: impl fmt::Display + Drop) -> io::Result<ExitCode> {
+/// Says why the program stops. The exit status is then 2.
+fn stop(rt: &impl Eprint, why: impl fmt::Display + Drop) -> io::Result<ExitCode>
+    ensures { IfOk result (λ status. exit_status status ≡ 2) }
+{
     eprintln!(rt; "example_permissions: {why}")?;
     Ok(ExitCode::from(2))
 }

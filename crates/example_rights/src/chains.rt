@@ -1,9 +1,9 @@
 //! Chains of iterators over rights.
 
-ghost use Rattle.std.specs.Prelude.{◌≡◌, not, fold, option_map};
+ghost use Rattle.std.specs.Prelude.{◌≡◌, not, option_map};
 ghost use Rattle.std.specs.List.{find, list_all};
 ghost use Rattle.enumset.specs.Sets as set;
-ghost use Rattle.enumset.specs.Sets.{valid_bits};
+ghost use Rattle.enumset.specs.Sets.{valid_bits, intersection_all};
 
 use crate::rights::Right;
 use enumset::{EnumSet, EnumSetType};
@@ -49,7 +49,7 @@ pub fn first_requested<T: EnumSetType>(granted: &EnumSet<T>, requested: &EnumSet
 
 /// The rights that all sets have.
 pub fn in_each<T: EnumSetType>(sets: &[EnumSet<T>]) -> EnumSet<T>
-    ensures { result ≡ fold set.intersection (valid_bits T.elements) sets.now }
+    ensures { result ≡ intersection_all (valid_bits T.elements) sets.now }
 {
     sets.iter()
         .fold(EnumSet::all(), |all, rights| all & rights.copied())

@@ -2,6 +2,7 @@
 #![tactic(auto, using(enumset::specs::Sets::set_laws))]
 
 mod chains;
+mod exercises;
 mod expressions;
 mod granting;
 mod loops;

@@ -1,8 +1,9 @@
 //! Proofs about code over sets.
 
-ghost use Rattle.std.specs.Prelude.{◌≡◌, true, false};
+ghost use Rattle.std.specs.Prelude.{◌≡◌, Some, true, false};
 ghost use Rattle.enumset.specs.Sets as set;
 
+use crate::rights::Right;
 use enumset::{EnumSet, EnumSetType};
 
 /// Grants a right that is not granted and revokes it again, which changes nothing.
@@ -30,4 +31,11 @@ pub fn rebuilt<T: EnumSetType>(granted: &EnumSet<T>) -> EnumSet<T>
         copy.insert(right);
     }
     copy
+}
+
+/// The rights of either of two sets.
+pub fn united(one: EnumSet<Right>, other: EnumSet<Right>) -> Option<EnumSet<Right>>
+    ensures { result ≡ Some (set.union other one) }
+{
+    Some(one | other)
 }

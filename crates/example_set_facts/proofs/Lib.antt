@@ -1,2 +1,3 @@
+pub mod FoldedSets
 pub mod SortedSets
 pub mod StageTexts

@@ -10,34 +10,6 @@ use crate::permissions::Permission;
 use crate::slices::count_in;
 use enumset::{EnumSet, EnumSetType};
 
-/// How many elements two sets share.
-pub fn shared_count<T: EnumSetType>(one: &EnumSet<T>, other: &EnumSet<T>) -> usize
-    ensures { result ≡ set.len (set.intersection one.now other.now) }
-{
-    one.iter().filter(|t| other.contains(*t)).count()
-}
-
-/// Whether all elements of a set are in another one.
-pub fn are_all_in<T: EnumSetType>(one: &EnumSet<T>, other: &EnumSet<T>) -> bool
-    ensures { result ≡ set.is_subset one.now other.now }
-{
-    one.iter().all(|t| other.contains(t))
-}
-
-/// Whether some element of a set is in another one.
-pub fn is_some_in<T: EnumSetType>(one: &EnumSet<T>, other: &EnumSet<T>) -> bool
-    ensures { result ≡ not (set.is_disjoint one.now other.now) }
-{
-    one.iter().any(|t| other.contains(t))
-}
-
-/// Keeps the elements that another set lacks.
-pub fn keep_absent<T: EnumSetType>(members: &mut EnumSet<T>, other: &EnumSet<T>)
-    ensures { members.new ≡ set.difference members.old other.now }
-{
-    members.retain(|t| !other.contains(t));
-}
-
 /// Keeps the elements that another set has.
 pub fn keep_present<T: EnumSetType>(members: &mut EnumSet<T>, other: &EnumSet<T>)
     ensures { members.new ≡ set.intersection members.old other.now }

@@ -1,20 +1,19 @@
 //! Slices and vectors of sets.
 
-ghost use Rattle.std.specs.Prelude.{◌≡◌, ◌≤◌, ◌++◌, ◌∷◌, [], true, fold, vec_len, vec_capacity, OnOk, OnErr};
+ghost use Rattle.std.specs.Prelude.{◌≡◌, ◌≤◌, ◌++◌, ◌∷◌, [], true, vec_len, vec_capacity, OnOk, OnErr};
 ghost use Rattle.std.specs.List.{list_all, list_any};
 ghost use Rattle.std.specs.Ordering.{ord_max};
 ghost use Rattle.enumset.specs.Sets as set;
-ghost use Rattle.enumset.specs.Sets.{compare};
+ghost use Rattle.enumset.specs.Sets.{compare, intersection_all, union_all};
 
 use enumset::{EnumSet, EnumSetType};
 use std::alloc::AllocError;
 
-/// What some set of many has.
+/// The elements that at least one of many sets has.
 pub fn in_some<T: EnumSetType>(sets: &[EnumSet<T>]) -> EnumSet<T>
-    ensures { result ≡ fold set.union set.empty sets.now }
+    ensures { result ≡ union_all sets.now }
 {
-    sets.iter()
-        .fold(EnumSet::new(), |all, members| all | members.copied())
+    sets.iter().copied().sum()
 }
 
 /// Whether some set of many has an element.
@@ -58,9 +57,9 @@ pub fn may_precede<T: EnumSetType>(part: &EnumSet<T>, whole: &EnumSet<T>) -> boo
     *part <= *whole
 }
 
-/// What a set has in common with all sets of many.
+/// What a set and all sets of many have in common.
 pub fn in_all_of<T: EnumSetType>(whole: &EnumSet<T>, sets: &[EnumSet<T>]) -> EnumSet<T>
-    ensures { result ≡ fold set.intersection whole.now sets.now }
+    ensures { result ≡ intersection_all whole.now sets.now }
 {
     sets.iter()
         .fold(whole.copied(), |all, members| all & members.copied())
@@ -68,7 +67,7 @@ pub fn in_all_of<T: EnumSetType>(whole: &EnumSet<T>, sets: &[EnumSet<T>]) -> Enu
 
 /// The part of a set that all sets of many have.
 pub fn part_in_all<T: EnumSetType>(whole: &EnumSet<T>, sets: &[EnumSet<T>]) -> EnumSet<T>
-    ensures part { result ≡ fold set.intersection whole.now sets.now }
+    ensures part { result ≡ intersection_all whole.now sets.now }
     ensures within { set.is_subset result whole.now ≡ true }
 {
     in_all_of(whole, sets)
@@ -83,7 +82,7 @@ pub fn are_apart_from<T: EnumSetType>(sets: &[EnumSet<T>], other: &EnumSet<T>) -
 
 /// Whether the union of many sets shares no element with a set.
 pub fn is_union_apart_from<T: EnumSetType>(sets: &[EnumSet<T>], other: &EnumSet<T>) -> bool
-    ensures { result ≡ set.is_disjoint (fold set.union set.empty sets.now) other.now }
+    ensures { result ≡ set.is_disjoint (union_all sets.now) other.now }
 {
     are_apart_from(sets, other)
 }

@@ -44,11 +44,11 @@ impl From<JsonFault> for Refusal {
     }
 }
 
-/// The features that a text lists. A name of none is a fault.
+/// The features that a text lists. A name that no feature has is a fault.
 pub fn listed(alloc: Global, text: &str) -> Result<EnumSet<Feature>, JsonFault>
     ensures { IsReadOf set_read text.now result }
 {
-    from_list_text(alloc, text, Unknown::Refuse)
+    Feature::from_json_text(alloc, text)
 }
 
 /// The features that a text lists, and the defaults.
@@ -73,7 +73,7 @@ pub fn read(alloc: Global, text: &str) -> Result<EnumSet<Feature>, Refusal>
     ensures unread { IfErr result (λ r. (f : JsonFault) × (r ≡ Refusal.Unread f)
         × IsReadOf set_read text.now (Err f)) }
 {
-    Ok(from_list_text(alloc, text, Unknown::Refuse)?)
+    Ok(Feature::from_json_text(alloc, text)?)
 }
 
 /// Features if all that is required is among them.
@@ -149,7 +149,7 @@ pub fn unknown_name(alloc: Global, text: &str) -> Result<Option<usize>, JsonFaul
     ensures fault { IfErr result (λ f. IsReadOf set_read text.now (Err f)) }
     ensures other { IfErr result (λ f. (place : ℕ) → f ≢ fault.UnknownName place) }
 {
-    match from_list_text::<Feature>(alloc, text, Unknown::Refuse) {
+    match Feature::from_json_text(alloc, text) {
         Ok(_) => Ok(None),
         Err(JsonFault::UnknownName(place)) => Ok(Some(place)),
         Err(fault) => Err(fault),
@@ -163,7 +163,7 @@ pub fn written(alloc: Global, features: &EnumSet<Feature>) -> Result<String, Jso
     ensures fault { IfErr result (λ f. f ≡ fault.OutOfMemory) }
 {
     laws::json_list_and_back(features, Unknown::Refuse);
-    to_list_text(alloc, features)
+    Feature::to_json_text(alloc, features)
 }
 
 /// Features, written into a text and read again: the same.

@@ -1,6 +1,6 @@
 //! Slices of elements.
 
-ghost use Rattle.std.specs.Prelude.{◌≡◌, map, fold, not, position, count_by};
+ghost use Rattle.std.specs.Prelude.{◌≡◌, map, not, position, count_by};
 ghost use Rattle.std.specs.List.{find, list_any, list_all};
 ghost use Rattle.enumset.specs.Sets as set;
 
@@ -8,7 +8,7 @@ use enumset::{EnumSet, EnumSetType};
 
 /// The set of the elements of a slice, inserted one by one.
 pub fn folded<T: EnumSetType>(elements: &[T]) -> EnumSet<T>
-    ensures { result ≡ fold (λ s t. set.union s (set.only (T.elements.bit t))) set.empty elements.now }
+    ensures { result ≡ set.from_list (map T.elements.bit elements.now) }
 {
     elements.iter().fold(EnumSet::new(), |all, t| all | *t)
 }

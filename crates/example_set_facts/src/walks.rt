@@ -5,19 +5,6 @@ ghost use Rattle.enumset.specs.Sets as set;
 
 use enumset::{EnumSet, EnumSetType};
 
-/// The elements of a set that another one lacks, collected one by one.
-pub fn without<T: EnumSetType>(whole: &EnumSet<T>, other: &EnumSet<T>) -> EnumSet<T>
-    ensures { result ≡ set.difference whole.now other.now }
-{
-    let mut left = EnumSet::new();
-    for element in whole.iter() {
-        if !other.contains(element) {
-            left.insert(element);
-        }
-    }
-    left
-}
-
 /// A set with each element of another one added.
 pub fn with_each<T: EnumSetType>(one: &EnumSet<T>, other: &EnumSet<T>) -> EnumSet<T>
     ensures { result ≡ set.union one.now other.now }
@@ -60,7 +47,7 @@ pub fn sorted_out<T: EnumSetType>(
     (inside, outside)
 }
 
-/// What some set of many has, united one after another.
+/// The union of many sets, made in a loop.
 pub fn united<T: EnumSetType>(sets: &[EnumSet<T>]) -> EnumSet<T>
     ensures { result ≡ fold set.union set.empty sets.now }
 {

@@ -4,6 +4,9 @@
 //! Monday on. The exit status is 0 if there is such a day, 1 if there is none, and 2 on a fault.
 #![tactic(auto, using(enumset::specs::Sets::set_laws))]
 
+ghost use Rattle.std.specs.Prelude.{◌≡◌, if◌then◌else◌, is_some, IfOk};
+ghost use Rattle.std.specs.Process.{exit_status};
+
 mod fault;
 mod reader;
 mod schedule;
@@ -36,15 +39,27 @@ fn print_day<R: Env + Files + Print + Eprint + AllocGlobal>(rt: &R) -> io::Resul
         Ok(schedules) => schedules,
         Err(fault) => return stop(rt, format_args!("{path}: {fault}")),
     };
-    let Some(day) = meeting_day(&schedules, from) else {
-        return Ok(ExitCode::FAILURE);
-    };
-    println!(rt; "{}", day.name())?;
-    Ok(ExitCode::SUCCESS)
+    let day = meeting_day(&schedules, from);
+    if let Some(day) = day {
+        println!(rt; "{}", day.name())?;
+    }
+    Ok(status_of(&day))
 }
 
-/// Says why the program stops.
-fn stop(rt: &impl Eprint, why: impl fmt::Display + Drop) -> io::Result<ExitCode> {
+/// The exit status of a run that found a day, or none: 0 or 1.
+fn status_of(day: &Option<Weekday>) -> ExitCode
+    ensures { exit_status result ≡ (if is_some day.now then 0 else 1) }
+{
+    match day {
+        Some(_) => ExitCode::SUCCESS,
+        None => ExitCode::FAILURE,
+    }
+}
+
+/// Says why the program stops. The exit status is then 2.
+fn stop(rt: &impl Eprint, why: impl fmt::Display + Drop) -> io::Result<ExitCode>
+    ensures { IfOk result (λ status. exit_status status ≡ 2) }
+{
     eprintln!(rt; "example_weekdays: {why}")?;
     Ok(ExitCode::from(2))
 }

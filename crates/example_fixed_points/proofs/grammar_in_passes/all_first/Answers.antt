@@ -13,6 +13,11 @@ loop-of-init c =
     let items = c.into_iter-of-iterator.ensures.into_iter_gives.0.items ∙ ap set.ascending c.all-of-items.ensures in
     many_pass_first _ _ _ _ _ c.loop-changed.invariant.reached (ap (λ bs. set.difference all (set.from_list bs)) items ∙ ap (set.difference all) (set.from_list_ascending all) ∙ set.difference_self all)
 
+pub bounds-sets-place : goal.bounds-sets-place
+bounds-sets-place c =
+    let below : set.place grammar.the_type c.in-Some.of < 15 = place_below grammar.the_type c.in-Some.of in
+    omega (arith, below, c.bit_index-place.ensures.bit)
+
 pub listed : goal.listed
 listed c =
     let below : set.place grammar.the_type c.in-Some.of < 15 = place_below grammar.the_type c.in-Some.of in

@@ -1,4 +1,0 @@
-#![tactic(auto, using(enumset::specs::Sets::set_laws))]
-
-pub mod months;
-pub mod opening;
