@@ -28,6 +28,8 @@ mod many_elements;
 #[cfg(test)]
 mod no_variant;
 #[cfg(test)]
+mod own_forms;
+#[cfg(test)]
 mod reading_newer;
 #[cfg(test)]
 mod refused;
