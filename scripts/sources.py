@@ -35,8 +35,9 @@ class Item:
     # The whole text, with its body.
     text: str
     members: list = field(default_factory=list)
-    # Where it is: the crate, and the names of the modules.
+    # Where it is: the crate, and the names of the modules; and the line of its file.
     module: tuple = ()
+    line: int = 0
 
     @property
     def first_sentence(self):
@@ -126,8 +127,8 @@ def above(lines, number):
     return "\n".join(doc), attributes
 
 
-def items_in(text, indent=0, module=()):
-    """The items of a text at this depth of indentation."""
+def items_in(text, indent=0, module=(), lines=0):
+    """The items of a text at this depth of indentation, which is after so many lines of its file."""
     code = masked(text)
     items = []
     ended = 0
@@ -145,14 +146,16 @@ def items_in(text, indent=0, module=()):
         elif kind != "impl":
             whole = f"ghost {name}" if kind == "ghost" else name
             name = re.match(r"(?:(?:const )?fn |macro_rules! |\w+ )?(\w+)", whole)[1]
-        doc, attributes = above(text[:begins].splitlines() or [""], text[:begins].count("\n"))
+        number = text[:begins].count("\n")
+        doc, attributes = above(text[:begins].splitlines() or [""], number)
         whole = without_margin(" " * indent + text[begins:ended])
         head = without_margin(" " * indent + text[begins:head_end])
         is_public = (found["shown"] or "").strip() == "pub"
-        item = Item(kind, name, is_public, doc, attributes, head, whole, module=module)
+        item = Item(kind, name, is_public, doc, attributes, head, whole, module=module, line=lines + number + 1)
         if kind in ("trait", "impl"):
             opening = code.index("{", head_end)
-            item.members = items_in(text[opening + 1 : ended - 1], indent + 4, module)
+            before = lines + text[: opening + 1].count("\n")
+            item.members = items_in(text[opening + 1 : ended - 1], indent + 4, module, before)
         items.append(item)
     return items
 
