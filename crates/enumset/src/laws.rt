@@ -6,7 +6,7 @@
 //! for strings too. The laws of members, numbers, words and hashes come from `enumset_sets`, the equations of sets and
 //! the laws of their order and of representations from `enumset_repr`, and all others from the modules below: what a
 //! reader of another element type reads, elements, complements, mixed sets, folds, iterators from both ends, and asks.
-//! Most laws that are about sets only are in rulesets. Rust's `enumset` has no laws.
+//! Most laws that are about sets only are in rulesets.
 
 ghost use Rattle.std.specs.Prelude.{◌≡◌, Ok, Some, IsTrue};
 ghost use Rattle.enumset_repr.specs.BitSet.{below, is_subset};

@@ -2,8 +2,8 @@
 //!
 //! Most items come from the crates below: [`EnumSet`] and the traits of its elements from `enumset_sets`,
 //! [`MixedEnumSet`](set::MixedEnumSet) from `enumset_mixed`, and the representations from `enumset_repr` and
-//! `enumset_array`. New here are the macros, the names of elements ([`EnumSetNames`]), the modules [`folds`] and
-//! [`set_json`], and most of the [`laws`].
+//! `enumset_array`. Declared in this crate are the macros, the names of elements ([`EnumSetNames`]), the modules
+//! [`folds`] and [`set_json`], and most of the [`laws`].
 //!
 //! # Element types
 //!

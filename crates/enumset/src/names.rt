@@ -18,7 +18,7 @@ pub trait EnumSetNames: EnumSetType + 'static {
         ensures { map (λ n. (Self.elements.bit n.0, n.1.now)) result.now
             ≡ names_of Self.elements names };
 
-    /// Returns the value's name. Rust's `enumset` has no such call.
+    /// Returns the value's name.
     final fn name(self) -> &'static str
         ensures { result.now ≡ name_of (names_of Self.elements names) (Self.elements.bit self) }
     {
@@ -38,8 +38,7 @@ pub trait EnumSetNames: EnumSetType + 'static {
         ""
     }
 
-    /// Returns the value with the name `text`, if there is one. Rust's `enumset` has no such call; `FromStr` would have
-    /// to return a `Result`.
+    /// Returns the value with the name `text`, if there is one. `FromStr` would have to return a `Result`.
     final fn of_name(text: &str) -> Option<Self>
         ensures { option_map Self.elements.bit result
             ≡ bit_named (names_of Self.elements names) text.now }

@@ -30,8 +30,8 @@ impl<const N: usize> Ord for ArrayRepr<N> {
 
     ghost matches_eq = { highest_first_ties };
 
-    /// The highest word that differs decides. So the greater set is the one that has the greatest number that is in
-    /// exactly one of the two.
+    /// The highest word that differs decides. So sets are ordered by the greatest number that is in exactly one of
+    /// them: the set that has it is the greater.
     fn cmp(&self, other: &ArrayRepr<N>) -> Ordering
         ensures words { result ≡ highest_first self.now other.now }
         ensures sets { result ≡ compare (set_of N self.now) (set_of N other.now) }

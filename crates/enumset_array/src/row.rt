@@ -8,8 +8,7 @@ ghost use Rattle.enumset_array.specs.Views.{AreWords};
 /// A list of fewer than 67108864 words of 64 bits, and a count of asks.
 ///
 /// An ask is one call of [`ask_front`](Row::ask_front) or [`ask_back`](Row::ask_back). Code over a row can read its
-/// words only by these calls, so the count says how often the code has read a word. Rust's `enumset` has nothing like
-/// this trait.
+/// words only by these calls, so the count says how often the code has read a word.
 pub trait Row {
     // The words.
     ghost words: { Self → List ℕ };

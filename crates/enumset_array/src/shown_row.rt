@@ -10,8 +10,7 @@ use std::marker::Model;
 
 /// The words in use of an `ArrayRepr`, with a count of asks that can be read at run time.
 ///
-/// The struct is for tests, and Rust's `enumset` has nothing like it. The number that it shows stops at `u64::MAX`; the
-/// count that contracts see has no limit.
+/// The struct is for tests. The number that it shows stops at `u64::MAX`; the count that contracts see has no limit.
 #[derive(Drop, Debug)]
 pub struct ShownRow<const N: usize> {
     row: Words<N>,

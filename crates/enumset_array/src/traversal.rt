@@ -12,7 +12,7 @@ use crate::cursors::{Cursors, step_back, step_front};
 use crate::row::Row;
 use std::alloc::{AllocError, Global};
 
-/// An end of a list of items that ascend. Rust's `enumset` has no such type.
+/// An end of a list of items that ascend.
 #[derive(Clone, Copy, Debug, PartialEq, Eq)]
 pub enum End {
     /// The end with the least item.
@@ -43,8 +43,6 @@ fn step<R: Row>(row: &mut R, cursors: &mut Cursors, end: End) -> Option<u32>
 /// All steps use one pair of cursors, which starts over the whole row. However long `ends` is, the number of asks that
 /// the call makes is at most the number of bits that it found plus the number of words of the row. If an answer is
 /// `None`, the number of asks is exactly that. The number of words stays the same.
-///
-/// Rust's `enumset` has no such call.
 pub fn walk_into<R: Row>(row: &mut R, ends: &[End], answers: &mut [Option<u32>])
     requires { length answers.old ≡ length ends.now }
     ensures walk { IsWalk (items_of (R.words row.old)) (R.asks row.old) (length (R.words row.old)) ends.now
@@ -66,8 +64,6 @@ pub fn walk_into<R: Row>(row: &mut R, ends: &[End], answers: &mut [Option<u32>])
 ///
 /// Room for all answers is taken before the first step. If the call returns `AllocError`, no bit was taken out and no
 /// word was asked.
-///
-/// Rust's `enumset` has no such call.
 pub fn walk<R: Row>(
     alloc: Global,
     row: &mut R,

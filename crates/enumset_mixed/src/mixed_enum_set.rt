@@ -26,10 +26,10 @@ use std::marker::{Model, PhantomData};
 /// Contracts see a set as the set of its bits, which are called its members. A bit is valid if a variant has it, and
 /// unknown otherwise.
 ///
-/// The struct mirrors `MixedEnumSet` of Rust's `enumset`, whose calls have the same names, except for
-/// [`eq_enumset`](MixedEnumSet::eq_enumset) and [`eq_element`](MixedEnumSet::eq_element). Calls with another set take a
-/// mixed set. In Rust they also take an element or an [`EnumSet`], as operators do here. The parameter `R` is always the
-/// representation of `T`: write `MixedEnumSet<T>`.
+/// The struct mirrors `MixedEnumSet` of Rust's `enumset`: each call there has its name here, and
+/// [`eq_enumset`](MixedEnumSet::eq_enumset) and [`eq_element`](MixedEnumSet::eq_element) are Rust's `==` with an
+/// [`EnumSet`] and an element. Calls with another set take a mixed set. In Rust they also take an element or an
+/// [`EnumSet`], as operators do here. The parameter `R` is always the representation of `T`: write `MixedEnumSet<T>`.
 pub struct MixedEnumSet<T: EnumSetTypeWithRepr, R: EnumSetTypeRepr = <T as EnumSetType>::Repr> {
     pub(crate) repr: R,
     of: PhantomData<T>,

@@ -19,9 +19,9 @@ impl<T: EnumSetTypeWithRepr> PartialOrd for MixedEnumSet<T> {
     }
 }
 
-/// Of two sets that differ, the greater is the one that has the greatest bit that is in exactly one of them. So it has
-/// the greater number, and a proper subset is less. Rust's mixed sets, which are over integers only, compare the same
-/// way.
+/// Sets are ordered by the greatest bit that is in exactly one of them: the set that has it is the greater. So the
+/// greater set has the greater number, and a proper subset is less. Rust's mixed sets, which are over integers only,
+/// compare the same way.
 impl<T: EnumSetTypeWithRepr> Ord for MixedEnumSet<T> {
     ghost cmp = { compare };
 

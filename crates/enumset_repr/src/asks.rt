@@ -8,7 +8,7 @@ use std::marker::{Model, PhantomData};
 /// A number of asks, which are counted reads of a word.
 ///
 /// A value takes no bytes at run time, and has no upper limit. Contracts see it as a number. Iterators over words keep
-/// one to count what they read. Rust's `enumset` has nothing like it.
+/// one to count what they read.
 #[derive(Drop)]
 pub struct Asks {
     marker: PhantomData<()>,

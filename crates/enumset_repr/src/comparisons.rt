@@ -18,8 +18,8 @@ pub fn are_same<R: EnumSetTypeRepr>(a: &R, b: &R) -> bool
     a.eq(b)
 }
 
-/// Returns how the sets of the two values compare: the greater is the one that has the greatest number that is in
-/// exactly one of them. Rust's `enumset` writes `cmp`.
+/// Returns how the sets of the two values compare. Sets are ordered by the greatest number that is in exactly one of
+/// them: the set that has it is the greater. Rust's `enumset` writes `cmp`.
 pub fn order_of<R: EnumSetTypeRepr>(a: &R, b: &R) -> Ordering
     ensures { result ≡ compare (R.members a.now) (R.members b.now) }
 {

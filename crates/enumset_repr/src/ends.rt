@@ -1,4 +1,4 @@
-//! The least and the greatest member of a set, over any representation. Rust's `enumset` has none of these calls.
+//! The least and the greatest member of a set, over any representation.
 
 ghost use Rattle.std.specs.Prelude.{◌≡◌, ◌*◌, ◌<◌, ◌^◌, IsTrue};
 ghost use Rattle.enumset_repr.specs.BitSet as set;

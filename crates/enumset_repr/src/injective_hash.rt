@@ -8,7 +8,6 @@ use crate::repr::EnumSetTypeRepr;
 ///
 /// [`EnumSetTypeRepr`] only requires that equal values feed the same data, as `Hash` of std does: a representation that
 /// feeds nothing meets this.
-/// Rust's `enumset` has no such trait.
 pub trait InjectiveHash: EnumSetTypeRepr {
     // Values that feed the same data are equal.
     ghost injective: { (a b : Self) → Self.is_value a → Self.is_value b

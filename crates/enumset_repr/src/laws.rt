@@ -1,4 +1,4 @@
-//! Laws that a proof learns from a call. Rust's `enumset` has nothing like them.
+//! Laws that a proof learns from a call.
 
 ghost use Rattle.std.specs.Prelude.{◌≡◌, ◌≢◌, ◌↔◌, ◌<◌, ◌==◌, ◌&&◌, ◌||◌, ℕ, Bool, List, IsTrue, false, length, nat_lt, not, slice_index};
 ghost use Rattle.std.specs.Cmp.{IsTotalOrder};
@@ -56,8 +56,8 @@ pub fn model()
     ensures is_empty { (s : BitSet) → IsTrue (set.is_empty s) ↔ s ≡ set.empty }
 {}
 
-/// Tells the proof the laws of the order of sets. Of two sets that differ, the greater is the one that has the greatest
-/// bit that is in exactly one of them.
+/// Tells the proof the laws of the order of sets. Sets are ordered by the greatest bit that is in exactly one of them:
+/// the set that has it is the greater.
 ///
 /// The order is total, and only equal sets compare as equal. A proper subset is less. For two subsets of one set,
 /// their complements in that set compare the other way round. The greater set has the greater number.

@@ -558,8 +558,6 @@ pub trait EnumSetTypeRepr: Copy
 }
 
 /// Returns the word of 64 bits at any place of a set, or 0 past the last word of the representation.
-///
-/// Rust's `enumset` has no such call.
 pub fn word_or_zero<R: EnumSetTypeRepr>(repr: &R, i: usize) -> u64
     ensures { result ≡ word_of (R.members repr.now) i }
 {

@@ -29,8 +29,9 @@ use std::marker::{Model, PhantomData};
 /// Contracts see a set as the set of its elements' bits, which are called its members. A bit is valid if a variant has
 /// it.
 ///
-/// The struct mirrors `EnumSet` of Rust's `enumset`, whose calls have the same names, except for
-/// [`eq_element`](EnumSet::eq_element). The parameter `R` is always the representation of `T`: write `EnumSet<T>`.
+/// The struct mirrors `EnumSet` of Rust's `enumset`: each call there has its name here, and
+/// [`eq_element`](EnumSet::eq_element) is Rust's `==` between a set and an element. The parameter `R` is always the
+/// representation of `T`: write `EnumSet<T>`.
 ///
 /// # Numbers
 ///

@@ -1,6 +1,4 @@
 //! Least fixed points: what a set reaches in any number of steps, what follows from it, what it needs in turn.
-//!
-//! Rust's `enumset` has no such calls.
 
 ghost use Rattle.std.specs.Prelude.{◌≡◌, ℕ};
 ghost use Rattle.enumset_repr.specs.BitSet.{BitSet};
@@ -12,7 +10,7 @@ use crate::enum_set::EnumSet;
 /// A step from a set to what follows from the set at once. What follows from a subset is a subset of what follows from
 /// the set.
 pub trait Step<T: EnumSetType> {
-    // What follows from a set.
+    // What follows from a set at once.
     ghost step: { Self → BitSet → BitSet };
 
     /// Returns what follows from a set at once.

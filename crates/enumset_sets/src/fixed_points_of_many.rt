@@ -1,7 +1,5 @@
 //! Least fixed points of several sets at once: one set for each node of a graph, as data flow has them, or for each
 //! symbol of a grammar.
-//!
-//! Rust's `enumset` has no such calls.
 
 ghost use Rattle.std.specs.Prelude.{◌≡◌, ◌<◌, ℕ, List, length};
 ghost use Rattle.enumset_repr.specs.BitSet.{BitSet};
@@ -13,7 +11,7 @@ use crate::enum_set::EnumSet;
 /// A step from several sets, each in its place, to what follows from them at once in each place. What follows from
 /// subsets is a subset of what follows from the sets.
 pub trait StepForMany<T: EnumSetType> {
-    // What follows from sets in a place.
+    // What follows from the sets at once in a place.
     ghost step: { Self → List BitSet → ℕ → BitSet };
 
     /// Returns what follows from the sets at once in a place, which must be below the number of sets.

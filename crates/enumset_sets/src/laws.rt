@@ -1,8 +1,7 @@
 //! Laws of members, and of round trips: what one call writes for a set, another call reads back as the same set.
 //!
 //! Each law is a function over every element type, which does nothing at run time, except [`bits_have_values`]. Code
-//! that needs a law calls it, and the proof of that code then knows what the function ensures. Rust's `enumset` has no
-//! laws.
+//! that needs a law calls it, and the proof of that code then knows what the function ensures.
 
 ghost use Rattle.std.specs.Prelude.{◌≡◌, ◌<◌, ◌*◌, ◌^◌, ◌↔◌, ℕ, Bool, IsTrue};
 ghost use Rattle.enumset_repr.specs.BitSet.{BitSet, is_in, contains, below, low, intersection, is_subset, len};

@@ -19,8 +19,9 @@ impl<T: EnumSetType> PartialOrd for EnumSet<T> {
     }
 }
 
-/// Of two sets that differ, the greater is the one that has the greatest bit that is in exactly one of them. So it has
-/// the greater number, and a proper subset is less. Rust's `enumset` compares sets over words from the lowest word on.
+/// Sets are ordered by the greatest bit that is in exactly one of them: the set that has it is the greater. So the
+/// greater set has the greater number, and a proper subset is less. Rust's `enumset` compares sets over words from the
+/// lowest word on.
 impl<T: EnumSetType> Ord for EnumSet<T> {
     ghost cmp = { compare };
 

@@ -27,7 +27,7 @@ pub fn new<T: EnumSetType>(repr: T::Repr) -> EnumSet<T>
 }
 
 /// Returns `ALL_BITS`, the value that represents the set of the valid bits of an element type. A proof learns from the
-/// call that these bits are below the width. Rust's `enumset` has no such call.
+/// call that these bits are below the width.
 pub fn valid_repr<T: EnumSetType>() -> T::Repr
     ensures members { T.Repr.members result ≡ valid_bits T.elements }
     ensures is_value { T.Repr.is_value result }

@@ -27,7 +27,7 @@ impl<T: EnumSetType + fmt::Display> fmt::Display for EnumSet<T> {
 }
 
 /// Writes ` | `, or nothing if the member that comes next is the first of a set. The function is public for
-/// `enumset_mixed`. Rust's `enumset` has no such function.
+/// `enumset_mixed`.
 pub fn write_separator<W: fmt::Write>(is_first: bool, f: &mut fmt::Formatter<W>) -> fmt::Result
     ensures text { DisplaysOnOk W.write_str_gives f.old result (Some (separator is_first)) f.new }
     ensures first { IsTrue is_first → IsOk result }

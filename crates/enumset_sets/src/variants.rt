@@ -1,7 +1,6 @@
 //! Functions that tell a proof that a match over bits has an arm for each variant.
 //!
-//! A match over at most 32 bits needs none of these functions. They do nothing at run time. Rust's `enumset` has
-//! nothing like them.
+//! A match over at most 32 bits needs none of these functions. They do nothing at run time.
 
 ghost use Rattle.std.specs.Prelude.{◌<◌, ◌++◌, IsTrue};
 ghost use Rattle.std.specs.List.{range_with_len};

@@ -22,7 +22,7 @@ pub enum JsonWidth {
 }
 
 impl JsonWidth {
-    /// Returns how many bits the type has. Rust's `enumset` has no such call.
+    /// Returns how many bits the type has.
     pub fn bits(self) -> u32
         ensures bits { result ≡ width_of self }
         ensures narrow { width_of self ≤ 64 }
