@@ -1,8 +1,9 @@
-//! Worked examples of macros, folds and JSON: calls with their operands and their answers, worked out by hand. They
-//! show what the definitions that contracts cite are meant to say. Worked examples of the other calls are in
-//! `tests_of_sets`.
+//! Worked examples: calls with their operands and their answers, worked out by hand. They show what the definitions that
+//! contracts cite are meant to say. More examples of calls of sets are in `tests_of_sets`.
 
+mod calls;
 mod folds;
 mod json;
 mod library;
 mod macros;
+mod mixed_calls;

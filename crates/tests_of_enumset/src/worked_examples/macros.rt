@@ -39,3 +39,13 @@ fn of_sets(rt: HostRuntime) {
         expect(&rt, call, made.as_u8_truncated(), wanted.as_u8_truncated());
     }
 }
+
+#[test]
+fn of_two_sets(rt: HostRuntime) {
+    let (ab, bc) = (enum_set!(A | B), enum_set!(B | C));
+    assert!(rt; enum_set_union!(ab, bc) == enum_set!(A | B | C));
+    assert!(rt; enum_set_intersection!(ab, bc) == enum_set!(B));
+    assert!(rt; enum_set_difference!(ab, bc) == enum_set!(A));
+    assert!(rt; enum_set_symmetric_difference!(ab, bc) == enum_set!(A | C));
+    assert!(rt; enum_set_complement!(bc) == enum_set!(A | D));
+}
