@@ -47,22 +47,22 @@ pub fn first_missing<T: EnumSetType>(granted: &EnumSet<T>, requested: &EnumSet<T
     requested.difference(granted.copied()).first()
 }
 
-/// The first of the granted rights past a bit.
-pub fn first_past<T: EnumSetType>(granted: &EnumSet<T>, bit: u32) -> Option<T>
+/// The first of the granted rights past a limit.
+pub fn first_past<T: EnumSetType>(granted: &EnumSet<T>, limit: u32) -> Option<T>
     ensures granted { IfSome result (λ right. set.contains granted.now (T.elements.bit right) ≡ true) }
-    ensures past { IfSome result (λ right. bit < T.elements.bit right) }
+    ensures past { IfSome result (λ right. limit < T.elements.bit right) }
     ensures least { IfSome result (λ right. (q : ℕ) → set.contains granted.now q ≡ true
-        → bit < q → T.elements.bit right ≤ q) }
-    ensures none { IfNone result ((q : ℕ) → set.contains granted.now q ≡ true → q ≤ bit) }
+        → limit < q → T.elements.bit right ≤ q) }
+    ensures none { IfNone result ((q : ℕ) → set.contains granted.now q ≡ true → q ≤ limit) }
 {
     granted
         .iter()
-        .find(|right| EnumSet::bit_index(*right) > bit)
+        .find(|right| EnumSet::bit_index(*right) > limit)
 }
 
-/// Whether no granted right is past a bit.
-pub fn is_none_past<T: EnumSetType>(granted: &EnumSet<T>, bit: u32) -> bool
-    ensures { result ≡ list_all (λ q. nat_le q bit) (set.ascending granted.now) }
+/// Whether no granted right is past a limit.
+pub fn is_none_past<T: EnumSetType>(granted: &EnumSet<T>, limit: u32) -> bool
+    ensures { result ≡ list_all (λ q. nat_le q limit) (set.ascending granted.now) }
 {
-    granted.iter().all(|right| EnumSet::bit_index(right) <= bit)
+    granted.iter().all(|right| EnumSet::bit_index(right) <= limit)
 }

@@ -36,8 +36,7 @@ pub fn with_shared<T: EnumSetType>(one: &EnumSet<T>, other: &EnumSet<T>) -> Enum
 
 /// The rights that two grants have in common, bit by bit.
 pub fn shared_by_two<T: EnumSetType>(one: &EnumSet<T>, other: &EnumSet<T>) -> EnumSet<T>
-    ensures { (bit : ℕ) → set.contains result bit
-        ≡ (set.contains one.now bit && set.contains other.now bit) }
+    ensures { (q : ℕ) → set.contains result q ≡ (set.contains one.now q && set.contains other.now q) }
 {
     one.intersection(other.copied())
 }

@@ -25,26 +25,26 @@ pub fn first_granted(granted: EnumSet<Permission>) -> Option<Permission>
 }
 
 /// The first element from a bit on.
-pub fn found_from<T: EnumSetType>(members: &EnumSet<T>, bit: u32) -> Option<T>
+pub fn found_from<T: EnumSetType>(members: &EnumSet<T>, start: u32) -> Option<T>
     ensures member { IfSome result (λ t. set.contains members.now (T.elements.bit t) ≡ true) }
-    ensures later { IfSome result (λ t. bit ≤ T.elements.bit t) }
+    ensures later { IfSome result (λ t. start ≤ T.elements.bit t) }
     ensures least { IfSome result (λ t. (q : ℕ) → set.contains members.now q ≡ true
-        → bit ≤ q → T.elements.bit t ≤ q) }
-    ensures none { IfNone result ((q : ℕ) → set.contains members.now q ≡ true → q < bit) }
+        → start ≤ q → T.elements.bit t ≤ q) }
+    ensures none { IfNone result ((q : ℕ) → set.contains members.now q ≡ true → q < start) }
 {
-    members.iter().find(|t| EnumSet::bit_index(*t) >= bit)
+    members.iter().find(|t| EnumSet::bit_index(*t) >= start)
 }
 
 /// The first element from a bit on, else the first element.
-pub fn found_round<T: EnumSetType>(members: &EnumSet<T>, bit: u32) -> Option<T>
+pub fn found_round<T: EnumSetType>(members: &EnumSet<T>, start: u32) -> Option<T>
     ensures member { IfSome result (λ t. set.contains members.now (T.elements.bit t) ≡ true) }
-    ensures later { IfSome result (λ t. (q : ℕ) → set.contains members.now q ≡ true → bit ≤ q
-        → (bit ≤ T.elements.bit t) × (T.elements.bit t ≤ q)) }
-    ensures first { IfSome result (λ t. T.elements.bit t < bit → (q : ℕ) → set.contains members.now q ≡ true
-        → (q < bit) × (T.elements.bit t ≤ q)) }
+    ensures later { IfSome result (λ t. (q : ℕ) → set.contains members.now q ≡ true → start ≤ q
+        → (start ≤ T.elements.bit t) × (T.elements.bit t ≤ q)) }
+    ensures first { IfSome result (λ t. T.elements.bit t < start → (q : ℕ) → set.contains members.now q ≡ true
+        → (q < start) × (T.elements.bit t ≤ q)) }
     ensures none { IfNone result (members.now ≡ set.empty) }
 {
-    match found_from(members, bit) {
+    match found_from(members, start) {
         Some(later) => Some(later),
         None => members.first(),
     }
