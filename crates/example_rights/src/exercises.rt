@@ -1,4 +1,4 @@
-//! Answers to the exercises on proofs.
+//! Solutions of the exercises on proofs.
 
 ghost use Rattle.std.specs.Prelude.{◌≡◌, IfSome, IfNone, Some, option_map};
 ghost use Rattle.enumset.specs.Sets as set;
@@ -33,6 +33,17 @@ pub fn either_and_both(
     other: EnumSet<Right>,
 ) -> (EnumSet<Right>, EnumSet<Right>)
     ensures { result ≡ (set.union other one, set.intersection other one) }
+{
+    (one | other, one & other)
+}
+
+/// The same two sets, each stated by a clause of its own.
+pub fn either_then_both(
+    one: EnumSet<Right>,
+    other: EnumSet<Right>,
+) -> (EnumSet<Right>, EnumSet<Right>)
+    ensures either { result.0 ≡ set.union other one }
+    ensures both { result.1 ≡ set.intersection other one }
 {
     (one | other, one & other)
 }

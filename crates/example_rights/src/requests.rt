@@ -64,5 +64,7 @@ pub fn first_past<T: EnumSetType>(granted: &EnumSet<T>, limit: u32) -> Option<T>
 pub fn is_none_past<T: EnumSetType>(granted: &EnumSet<T>, limit: u32) -> bool
     ensures { result ≡ list_all (λ q. nat_le q limit) (set.ascending granted.now) }
 {
-    granted.iter().all(|right| EnumSet::bit_index(right) <= limit)
+    granted
+        .iter()
+        .all(|right| EnumSet::bit_index(right) <= limit)
 }
