@@ -29,6 +29,7 @@ pub mod plant;
 pub mod prices;
 pub mod schedules;
 pub mod seats;
+pub mod settings;
 pub mod slices;
 pub mod sorted;
 pub mod stages;
