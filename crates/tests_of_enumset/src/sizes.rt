@@ -2,7 +2,7 @@
 //!
 //! A set takes the bytes of its representation: of its integer, or 8 for each word. Its iterator takes as many, and
 //! over words 16 more, for two cursors. Each pattern of bits is a set, so an `Option` needs a flag, which takes as many
-//! bytes as the alignment: the size of the integer, or 8 over words. Sets of Rust's `enumset` have the same sizes.
+//! bytes as the alignment: the size of the integer, or 8 over words.
 use crate::expect::expect;
 use enumset::set::{EnumSet, EnumSetIter, MixedEnumSet, MixedEnumSetIter};
 use enumset_worked::{Letters, PairWords, Sparse, Wide};
