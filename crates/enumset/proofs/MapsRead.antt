@@ -14,7 +14,7 @@ use Rattle.enumset.proofs.MapTokens.{put_all, member_tokens, opened, next_member
 use Rattle.enumset.proofs.NamesTaken.{Each, put_cases, each_put}
 use Rattle.enumset.proofs.PlainLists.{no_unknown}
 use Rattle.enumset.specs.Json.{unless_fault}
-use Rattle.enumset.specs.JsonNames.{members_in, names_in, true_names, is_no_boolean, is_unknown, known_set, decided, set_of_map}
+use Rattle.enumset.specs.JsonNames.{members_in, names_in, true_names, is_no_boolean, is_unknown, known_set, unless_unknown, set_of_map}
 use Rattle.enumset.specs.JsonPlain.{StartsWithMember, AreSpaces, Passed}
 use Rattle.enumset.specs.JsonReads.{value_read, IsResult}
 use Rattle.enumset.specs.Names.{Names, bit_named}
@@ -40,7 +40,7 @@ module _ (names : Names) where
   whole_set : (seen : BitSet) (unknown : Unknown) (ms : Members) → Each (IsSeen seen) ms → set_of_map names unknown (object ms) ≡ Ok (set_in ms)
   whole_set seen unknown ms each =
       let none = none_faulty seen 0 ms each in
-      (λ j. unless_fault NotABoolean ((position_from-zero is_no_boolean (members_in ms) ∙ none.0) j) (decided unknown ((position_from-zero (is_unknown names) (names_in (members_in ms)) ∙ none.1) j) (set_in ms)))
+      (λ j. unless_fault NotABoolean ((position_from-zero is_no_boolean (members_in ms) ∙ none.0) j) (unless_unknown unknown ((position_from-zero (is_unknown names) (names_in (members_in ms)) ∙ none.1) j) (set_in ms)))
       ∙ sym (no_unknown unknown (set_in ms) (set_in ms) refl)
 
   -- ---- one more member

@@ -11,7 +11,7 @@ use Rattle.enumset_repr.specs.Laws.Algebra.{empty_union, union_insert, insert_un
 use Rattle.enumset_sets.specs.Laws.Folds.{union_none}
 use Rattle.enumset.proofs.JsonLaws.{values_back}
 use Rattle.enumset.specs.Json.{unless_fault, values_of}
-use Rattle.enumset.specs.JsonNames.{members_in, string_in, is_true, is_no_string, is_no_boolean, is_unknown, known_set, decided, set_of_values, set_of_members}
+use Rattle.enumset.specs.JsonNames.{members_in, string_in, is_true, is_no_string, is_no_boolean, is_unknown, known_set, unless_unknown, set_of_values, set_of_members}
 use Rattle.enumset.specs.Names.{Names, bit_named}
 use Rattle.enumset.specs.declared.set_json.fault.JsonFault.{JsonFault}
 use Rattle.enumset.specs.declared.set_json.fault.JsonFault.TheVariants.{NotAText, NotABoolean}
@@ -34,11 +34,11 @@ module _ {X : Type 0} (is_fault is_taken : X → Bool) (name : X → List ℕ) (
   -- what the items from an index on are read as, given the set so far and the index of the first unknown name
   pub read_on : ℕ → BitSet → Option ℕ → List X → Result BitSet JsonFault
   read_on place s first xs =
-      unless_fault fault (position_from is_fault place xs) (decided unknown (option_or first (position_from (is_unknown names) place (map name xs))) (union s (known_set names (map name (filter is_taken xs)))))
+      unless_fault fault (position_from is_fault place xs) (unless_unknown unknown (option_or first (position_from (is_unknown names) place (map name xs))) (union s (known_set names (map name (filter is_taken xs)))))
 
-  pub read_end : (place : ℕ) (s : BitSet) (first : Option ℕ) (xs : List X) → xs ≡ [] → read_on place s first xs ≡ decided unknown first s
+  pub read_end : (place : ℕ) (s : BitSet) (first : Option ℕ) (xs : List X) → xs ≡ [] → read_on place s first xs ≡ unless_unknown unknown first s
   unfolding read_on
-  read_end place s first xs none = ap (read_on place s first) none ∙ (λ j. decided unknown (sym (or_none first) j) (union_none s j))
+  read_end place s first xs none = ap (read_on place s first) none ∙ (λ j. unless_unknown unknown (sym (or_none first) j) (union_none s j))
 
   one_added : (b : Bool) (s : BitSet) (x : X) (xs : List X) → union (cond b (option_map_or (insert s) (bit_named names (name x)) s) s) (known_set names (map name xs)) ≡ union s (known_set names (map name (cond b (x ∷ xs) xs)))
   one_added true s x xs = named_first (bit_named names (name x)) s (filter_map (bit_named names) (map name xs))
@@ -55,11 +55,11 @@ module _ {X : Type 0} (is_fault is_taken : X → Bool) (name : X → List ℕ) (
     unfolding read_on
     read_next bit taken none here named =
         rw (is, none, ← here, ← named)
-        (λ j. unless_fault fault (position_from is_fault (place + 1) rest) (decided unknown (sym (first_place first (is_unknown names (name x)) place (position_from (is_unknown names) (place + 1) (map name rest))) j) (sym (one_added (is_taken x) s x (filter is_taken rest)) j)))
+        (λ j. unless_fault fault (position_from is_fault (place + 1) rest) (unless_unknown unknown (sym (first_place first (is_unknown names (name x)) place (position_from (is_unknown names) (place + 1) (map name rest))) j) (sym (one_added (is_taken x) s x (filter is_taken rest)) j)))
 
-  read_all : (xs : List X) → read_on 0 empty None xs ≡ unless_fault fault (position is_fault xs) (decided unknown (position (is_unknown names) (map name xs)) (known_set names (map name (filter is_taken xs))))
+  read_all : (xs : List X) → read_on 0 empty None xs ≡ unless_fault fault (position is_fault xs) (unless_unknown unknown (position (is_unknown names) (map name xs)) (known_set names (map name (filter is_taken xs))))
   unfolding read_on
-  read_all xs = λ j. unless_fault fault (sym (position_from-zero is_fault xs) j) (decided unknown (sym (position_from-zero (is_unknown names) (map name xs)) j) (empty_union (known_set names (map name (filter is_taken xs))) j))
+  read_all xs = λ j. unless_fault fault (sym (position_from-zero is_fault xs) j) (unless_unknown unknown (sym (position_from-zero (is_unknown names) (map name xs)) j) (empty_union (known_set names (map name (filter is_taken xs))) j))
 
 -- ---- lists
 
@@ -73,7 +73,7 @@ all_taken (d ∷ ds) = ap (λ es. d ∷ es) (all_taken ds)
 pub list_read_all : (names : Names) (unknown : Unknown) (ds : List Data) → list_on names unknown 0 empty None ds ≡ set_of_values names unknown ds
 list_read_all names unknown ds =
     read_all is_no_string (λ value. true) string_in NotAText names unknown ds
-    ∙ ap (λ es. unless_fault NotAText (position is_no_string ds) (decided unknown (position (is_unknown names) (map string_in ds)) (known_set names (map string_in es)))) (all_taken ds)
+    ∙ ap (λ es. unless_fault NotAText (position is_no_string ds) (unless_unknown unknown (position (is_unknown names) (map string_in ds)) (known_set names (map string_in es)))) (all_taken ds)
 
 pub list_read : (names : Names) (unknown : Unknown) (vs : List Value) → list_on names unknown 0 empty None (map view vs) ≡ set_of_values names unknown (values_of (items_view vs))
 list_read names unknown vs = list_read_all names unknown (map view vs) ∙ ap (set_of_values names unknown) (sym (values_back (map view vs)))

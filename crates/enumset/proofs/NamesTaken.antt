@@ -20,7 +20,7 @@ use Rattle.enumset_sets.specs.Laws.Elements.{bits_are_listed}
 use Rattle.enumset.proofs.JsonLaws.{values_back}
 use Rattle.enumset.proofs.NameLaws.{AreNames, name_back, agree_at}
 use Rattle.enumset.specs.Json.{unless_fault}
-use Rattle.enumset.specs.JsonNames.{members_in, names_in, true_names, string_in, is_no_string, is_no_boolean, is_unknown, decided, named_set, set_of_values, set_of_list, set_of_map, list_value, with_bits_true, map_value, in_map, accepted_by_name}
+use Rattle.enumset.specs.JsonNames.{members_in, names_in, true_names, string_in, is_no_string, is_no_boolean, is_unknown, unless_unknown, named_set, set_of_values, set_of_list, set_of_map, list_value, with_bits_true, map_value, in_map, accepted_by_name}
 use Rattle.enumset.specs.Names.{Names, name_of, bit_named, names_agree}
 use Rattle.enumset.specs.declared.set_json.fault.JsonFault.{JsonFault}
 use Rattle.enumset.specs.declared.set_json.fault.JsonFault.TheVariants.{NotAText, NotABoolean}
@@ -31,13 +31,13 @@ use Rattle.enumset.specs.declared.set_json.unknown.Unknown.TheVariants.{Drop, Re
 
 -- what a reader accepts of names with these bits
 abbrev taken : Unknown → List (Option ℕ) → Result BitSet JsonFault
-taken unknown bits = decided unknown (position is_none bits) (from_list (filter_map (λ o. o) bits))
+taken unknown bits = unless_unknown unknown (position is_none bits) (from_list (filter_map (λ o. o) bits))
 
 by_bits : (names : Names) (unknown : Unknown) (texts : List (List ℕ)) → named_set names unknown texts texts ≡ taken unknown (map (bit_named names) texts)
 by_bits names unknown texts =
     let place = same_from_clauses (position_or_len (is_unknown names)) (λ ts. position_or_len is_none (map (bit_named names) ts)) (λ t n. cond (not (is_unknown names t)) (1 + n) 0) refl (λ _ _. refl) (λ _ _. refl) texts in
     let bits = same_from_clauses (filter_map (bit_named names)) (λ ts. filter_map (λ o. o) (map (bit_named names) ts)) (λ t. cons_option (bit_named names t)) refl (λ _ _. refl) (λ _ _. refl) texts in
-    λ j. decided unknown (cond (nat_lt (place j) (sym (length-map texts (bit_named names)) j)) (Some (place j)) None) (from_list (bits j))
+    λ j. unless_unknown unknown (cond (nat_lt (place j) (sym (length-map texts (bit_named names)) j)) (Some (place j)) None) (from_list (bits j))
 
 module _ (valid : BitSet) where
   -- a bit, if it is valid

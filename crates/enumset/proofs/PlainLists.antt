@@ -9,7 +9,7 @@ use Rattle.enumset.proofs.JsonItems.{passed}
 use Rattle.enumset.proofs.JsonLists.{opened, no_items_read, next_string, last_string}
 use Rattle.enumset.proofs.NamesRead.{list_on, list_read_all, read_next, read_end}
 use Rattle.enumset.specs.Json.{values_of}
-use Rattle.enumset.specs.JsonNames.{set_of_list, decided, is_unknown}
+use Rattle.enumset.specs.JsonNames.{set_of_list, unless_unknown, is_unknown}
 use Rattle.enumset.specs.JsonPlain.{IsPlain, AreSpaces, Passed}
 use Rattle.enumset.specs.JsonReads.{value_read, IsResult, IsReadOf}
 use Rattle.enumset.specs.Names.{Names, bit_named}
@@ -30,7 +30,7 @@ refused reader text (Err fault) Memory (inl (memory, is)) none = inl (ap Err is)
 refused reader text (Err fault) Memory (inr (other, (line, is))) none = inr (subst (λ o. IsResult o (Err fault)) (sym (ap (option_map reader) (none other))) (line, ap Err is))
 
 -- if no name is unknown, the set is the result
-pub no_unknown : (unknown : Unknown) (s t : BitSet) → s ≡ t → Ok s ≡ decided unknown None t
+pub no_unknown : (unknown : Unknown) (s t : BitSet) → s ≡ t → Ok s ≡ unless_unknown unknown None t
 no_unknown Drop s t same = ap Ok same
 no_unknown Refuse s t same = ap Ok same
 
@@ -44,7 +44,7 @@ module _ (names : Names) (unknown : Unknown) (text : List ℕ) where
   read_as : (ds : Items) → read text ≡ Some (array ds) → value_read (set_of_list names unknown) text ≡ Some (list_on names unknown 0 empty None (values_of ds))
   read_as ds e = ap (option_map (set_of_list names unknown)) e ∙ ap Some (sym (list_read_all names unknown (values_of ds)))
 
-  pub none_named : (bytes rest end : List ℕ) → bytes ≡ text → Passed bytes 91 rest → Passed rest 93 end → AreSpaces end → value_read (set_of_list names unknown) text ≡ Some (decided unknown None empty)
+  pub none_named : (bytes rest end : List ℕ) → bytes ≡ text → Passed bytes 91 rest → Passed rest 93 end → AreSpaces end → value_read (set_of_list names unknown) text ≡ Some (unless_unknown unknown None empty)
   none_named bytes rest end same found close spaced =
       read_as no_items (ap read (sym same) ∙ no_items_read bytes rest end found close spaced) ∙ ap Some (read_end _ _ _ _ names unknown 0 empty None [] refl)
 
@@ -61,6 +61,6 @@ module _ (names : Names) (unknown : Unknown) (text : List ℕ) where
     pub goes_on : (after following : List ℕ) → Passed rest 44 after → Passed after 34 following → GoesOn following (place + 1) next later
     goes_on after following comma quote ds e = so_far (item (string name) ds) (next_string left name rest plain split after following ds comma quote e) ∙ ap Some (one_read ds)
 
-    pub ends : (end : List ℕ) → Passed rest 93 end → AreSpaces end → value_read (set_of_list names unknown) text ≡ Some (decided unknown later next)
+    pub ends : (end : List ℕ) → Passed rest 93 end → AreSpaces end → value_read (set_of_list names unknown) text ≡ Some (unless_unknown unknown later next)
     ends end close spaced =
         so_far (item (string name) no_items) (last_string left name rest plain split end close spaced) ∙ ap Some (one_read no_items ∙ read_end _ _ _ _ names unknown (place + 1) next later [] refl)

@@ -5,7 +5,7 @@
 --         member's value is not a boolean
 --     is_unknown      whether no variant has a string as its name
 --     known_set      the set of the names that are known
---     decided      the set that was read, or the fault of the first unknown name
+--     unless_unknown      the set that was read, or the fault of the first unknown name
 --     named_set      the set of the names that are known, where unknown names are dropped, or the first of them is the
 --         fault
 --     names_in, true_names      the names of members;  of the members whose value is `true`
@@ -56,13 +56,13 @@ abbrev pub known_set : Names → List (List ℕ) → BitSet
 known_set names found = from_list (filter_map (bit_named names) found)
 
 -- the set that was read, or the fault of the first unknown name
-abbrev pub decided : Unknown → Option ℕ → BitSet → Result BitSet JsonFault
-decided Drop first s = Ok s
-decided Refuse first s = unless_fault UnknownName first (Ok s)
+abbrev pub unless_unknown : Unknown → Option ℕ → BitSet → Result BitSet JsonFault
+unless_unknown Drop first s = Ok s
+unless_unknown Refuse first s = unless_fault UnknownName first (Ok s)
 
 -- the set of the names that are chosen among all names
 abbrev pub named_set : Names → Unknown → List (List ℕ) → List (List ℕ) → Result BitSet JsonFault
-named_set names unknown all chosen = decided unknown (position (is_unknown names) all) (known_set names chosen)
+named_set names unknown all chosen = unless_unknown unknown (position (is_unknown names) all) (known_set names chosen)
 
 abbrev pub set_of_values : Names → Unknown → List Data → Result BitSet JsonFault
 set_of_values names unknown values =

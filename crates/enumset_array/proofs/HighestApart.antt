@@ -22,15 +22,15 @@ kept : (o p : Ordering) (u v : ℕ) → MatchOrdering o (u < v) (u ≡ v) (v < u
 kept o p u v h apart = grind (arith, nat_tests, h, apart)
 
 -- the words at place i decide how the lists compare, if these two words differ and all words after them are equal
-pub decided : (a b : List ℕ) (i : ℕ) → length a ≡ length b → i < length a → slice_index a i ≢ slice_index b i → drop (suc i) a ≡ drop (suc i) b
+pub decides_order : (a b : List ℕ) (i : ℕ) → length a ≡ length b → i < length a → slice_index a i ≢ slice_index b i → drop (suc i) a ≡ drop (suc i) b
     → highest_first a b ≡ nat_cmp (slice_index a i) (slice_index b i)
-decided (x ∷ a) (y ∷ b) zero long under apart same =
+decides_order (x ∷ a) (y ∷ b) zero long under apart same =
     highest_first_cons x y a b (omega (arith, long)) ∙ ap (λ o. ordering_then o (nat_cmp x y)) (sym (all_equal a b 0 refl same))
-decided (x ∷ a) (y ∷ b) (suc i) long under apart same =
+decides_order (x ∷ a) (y ∷ b) (suc i) long under apart same =
     highest_first_cons x y a b (omega (arith, long))
-    ∙ ap (λ o. ordering_then o (nat_cmp x y)) (decided a b i (omega (arith, long)) (omega (arith, under)) apart same)
+    ∙ ap (λ o. ordering_then o (nat_cmp x y)) (decides_order a b i (omega (arith, long)) (omega (arith, under)) apart same)
     ∙ kept _ (nat_cmp x y) _ _ (ranks (slice_index a i) (slice_index b i)) apart
-decided a b i long under apart same = absurd (omega (arith, long, under))
+decides_order a b i long under apart same = absurd (omega (arith, long, under))
 
 -- ---- lists that are equal from a place on
 

@@ -54,7 +54,7 @@ impl<const N: usize> PartialEq for ArrayRepr<N> {
     ghost laws = { partial_equiv_from_equiv nat_list_eq_equiv };
 
     fn eq(&self, other: &ArrayRepr<N>) -> bool {
-        lanes::yields_none::<Xor>(&self.0, &other.0)
+        lanes::words_yield_none::<Xor>(&self.0, &other.0)
     }
 }
 

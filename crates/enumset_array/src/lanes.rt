@@ -1,4 +1,5 @@
-//! Operations on lists of words, in groups of four words; the words left over follow one by one.
+//! Operations on lists of words, in groups of four words; the words left over follow one by one. What the paths from
+//! sixteen words on save is in `docs/DECISIONS.md`.
 
 ghost use Rattle.std.specs.Prelude.{◌≡◌, ◌<◌, ◌≤◌, ◌==◌, IfSome, drop, is_none, length, map, nat_eq, not, sum_by, take, true};
 ghost use Rattle.std.specs.Cmp.Lexicographic.{pointwise};
@@ -14,15 +15,15 @@ use std::simd::prelude::*;
 
 /// Replaces each word by the result of the operation for this word and the one of `others` in the same place. The lists
 /// must have the same length.
-pub(crate) fn apply<O: SetOperation>(words: &mut [u64], others: &[u64])
+pub(crate) fn apply_to_words<O: SetOperation>(words: &mut [u64], others: &[u64])
     requires { length words.old ≡ length others.now }
     ensures { words.new ≡ zip2 O.of_words words.old others.now }
 {
     apply_from::<O>(words, others, 0);
 }
 
-/// Does what [`apply`] does, if the operation leaves each word before `place` as it is. The lists must have the same
-/// length.
+/// Does what [`apply_to_words`] does, if the operation leaves each word before `place` as it is. The lists must have the
+/// same length.
 ///
 /// An iteration of the loop goes over sixteen words. Over 1024 words this takes 8% fewer instructions than four words
 /// in an iteration.
@@ -41,7 +42,7 @@ fn apply_from<O: SetOperation>(words: &mut [u64], others: &[u64], place: usize)
     apply_by_four::<O>(&mut words[i..], &others[i..]);
 }
 
-/// Does what [`apply`] does, with four words in an iteration. The lists must have the same length.
+/// Does what [`apply_to_words`] does, with four words in an iteration. The lists must have the same length.
 #[inline]
 fn apply_by_four<O: SetOperation>(words: &mut [u64], others: &[u64])
     requires { length words.old ≡ length others.now }
@@ -60,14 +61,14 @@ fn apply_by_four<O: SetOperation>(words: &mut [u64], others: &[u64])
     }
 }
 
-/// Does what [`apply`] does, and returns whether a word changed. The lists must have the same length.
+/// Does what [`apply_to_words`] does, and returns whether a word changed. The lists must have the same length.
 ///
 /// From sixteen words on, the words are read in blocks of sixteen, and those left over as one more block, up to the
 /// first block in which a word changes. From this block on they are written. So nothing is written if no word changes,
 /// and only the first word and this block are read twice. Below sixteen words, one loop that writes and compares is
 /// faster. Inlined, the loops are compiled for N words: over 24 words this takes a third fewer instructions.
 #[inline(always)]
-pub(crate) fn apply_changes<O: SetOperation>(words: &mut [u64], others: &[u64]) -> bool
+pub(crate) fn change_words<O: SetOperation>(words: &mut [u64], others: &[u64]) -> bool
     requires { length words.old ≡ length others.now }
     ensures words { words.new ≡ zip2 O.of_words words.old others.now }
     ensures changed { result ≡ not (pointwise nat_eq words.old words.new) }
@@ -77,15 +78,15 @@ pub(crate) fn apply_changes<O: SetOperation>(words: &mut [u64], others: &[u64]) 
     }
     match first_result::<Change<O>>(words, others) {
         None => return false,
-        // The loop of `apply` begins at place 0, so it is compiled for N words, too.
-        Some(0) => apply::<O>(words, others),
+        // The loop of `apply_to_words` begins at place 0, so it is compiled for N words, too.
+        Some(0) => apply_to_words::<O>(words, others),
         Some(place) => apply_from::<O>(words, others, place),
     }
     true
 }
 
-/// Does what [`apply`] does, and returns whether a word changed. The lists must have the same length. Each word is read
-/// once.
+/// Does what [`apply_to_words`] does, and returns whether a word changed. The lists must have the same length. Each word
+/// is read once.
 fn apply_and_compare<O: SetOperation>(words: &mut [u64], others: &[u64]) -> bool
     requires { length words.old ≡ length others.now }
     ensures words { words.new ≡ zip2 O.of_words words.old others.now }
@@ -125,7 +126,7 @@ pub(crate) fn invert(words: &mut [u64])
 
 /// Returns whether the operation yields 0 for every pair of words in the same place. The lists must have the same
 /// length.
-pub(crate) fn yields_none<O: SetOperation>(words: &[u64], others: &[u64]) -> bool
+pub(crate) fn words_yield_none<O: SetOperation>(words: &[u64], others: &[u64]) -> bool
     requires { length words.now ≡ length others.now }
     ensures { result ≡ list_all (λ w. w == 0) (zip2 O.of_words words.now others.now) }
 {

@@ -134,7 +134,7 @@ pub(crate) fn apply<O: SetOperation, const N: usize>(repr: &mut ArrayRepr<N>, ot
     ensures value { IsArrayRepr N repr.new }
     ensures set { set_of N repr.new ≡ O.of_sets (set_of N repr.old) (set_of N other.now) }
 {
-    lanes::apply::<O>(&mut repr.0, other.words());
+    lanes::apply_to_words::<O>(&mut repr.0, other.words());
 }
 
 /// Replaces a value by the result of the operation for this value and `other`, and returns whether its set changed.
@@ -147,7 +147,7 @@ pub(crate) fn apply_changes<O: SetOperation, const N: usize>(
     ensures changed { result
         ≡ not (set.is_same (set_of N repr.old) (O.of_sets (set_of N repr.old) (set_of N other.now))) }
 {
-    lanes::apply_changes::<O>(&mut repr.0, other.words())
+    lanes::change_words::<O>(&mut repr.0, other.words())
 }
 
 /// Returns whether the result of the operation for two values is the empty set.
@@ -158,5 +158,5 @@ pub(crate) fn yields_none<O: SetOperation, const N: usize>(
     ensures value { IsArrayRepr N repr.now }
     ensures empty { result ≡ set.is_empty (O.of_sets (set_of N repr.now) (set_of N other.now)) }
 {
-    lanes::yields_none::<O>(repr.words(), other.words())
+    lanes::words_yield_none::<O>(repr.words(), other.words())
 }

@@ -50,7 +50,7 @@ tokens_at (Some (suc i)) s h more other =
     let full = ne_eqb (length (take (suc i) s)) 0 (λ z. omega (arith, found.0, length-take (suc i) s)) in
     rw (tokens_of-cut s (take (suc i) s) (drop (suc i + 1) s) (split-at (λ b. b == 32) s (suc i) h) full) (ne_eqb _ 0 (λ z. omega arith))
 
--- a text has a token unless it is empty or begins with a space
+-- a text that does not begin with a space has no token exactly if it is empty
 pub tokens_of-ends : (s : List ℕ) → (get_or s 0 0 == 32) ≡ false → (length (tokens_of s) == 0) ≡ (length s == 0)
 tokens_of-ends [] other = refl
 tokens_of-ends (x ∷ s) other =

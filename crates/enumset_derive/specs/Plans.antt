@@ -23,7 +23,7 @@ use Rattle.enumset_derive.specs.declared.plan.Store.TheVariants as store
 abbrev pub IsPlanned : EnumDeclaration → Plan → Type 0
 IsPlanned d plan = (plan_faults d ≡ []) × ((named_variants d).0 ≡ plan.variants.items)
 
--- an enum of n variants without fields, whose values are their places
+-- an enum of n variants without fields: the value of each variant is its place
 abbrev pub without_fields : ℕ → Declared
 without_fields n = record {
   name = [];

@@ -163,8 +163,8 @@ impl Element<'_, '_> {
         !matches!(&self.plan.store, Store::Words(words) if words.len() > 2)
     }
 
-    /// Whether a table has the variant of each bit: if there are more than sixteen, and their bits are not their
-    /// places.
+    /// Whether a table has the variant of each bit: if there are more than sixteen variants, and the bit of some
+    /// variant is not its place.
     pub fn is_in_table(&self) -> bool {
         self.plan.variants.len() > 16 && !self.are_places()
     }

@@ -62,6 +62,7 @@ pub fn items_of<'a, 'b>(
     let mut items = Vec::new(alloc);
     let mut rest = after_comments(tokens);
     let mut is_head = true;
+    // Each iteration takes at least one token. The bound shows that the loop ends: a `while` would need a proof.
     for _ in tokens {
         if is_at_end(rest) {
             break;

@@ -169,10 +169,15 @@ fn derive<R: Input + Eprint + AllocGlobal>(rt: &R, request: &Request) -> Outcome
 /// The bytes as UTF-8 without a byte order mark, or the fault at the first invalid byte.
 fn text_of(input: &[u8]) -> Outcome<&str> {
     let input = input.strip_prefix(b"\xEF\xBB\xBF").unwrap_or(input);
-    let valid = input.utf8_chunks().next().map_or("", |chunk| chunk.valid());
-    let end = valid.chars().fold(Place::BEGIN, Place::after);
-    let fault = Reason::Text("these bytes are not valid UTF-8").at(end);
-    str::from_utf8(input).map_err(|_| DeriveError::Fault(fault))
+    match str::from_utf8(input) {
+        Ok(text) => Ok(text),
+        Err(_) => {
+            let valid = input.utf8_chunks().next().map_or("", |chunk| chunk.valid());
+            let end = valid.chars().fold(Place::BEGIN, Place::after);
+            let fault = Reason::Text("these bytes are not valid UTF-8").at(end);
+            Err(DeriveError::Fault(fault))
+        }
+    }
 }
 
 /// Notes the enums that have no terms for clauses.

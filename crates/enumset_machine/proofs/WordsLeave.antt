@@ -64,7 +64,7 @@ unfolding mixed_outcome
 mixed_outcome_leaves valid width s c =
     unless_leaves (refusal (width_rules valid width) (mixed_plan c)) (width_rules valid width) s (mixed_plan c) (mixed_plan_leaves (width_rules valid width) (λ bit. bit_free (contains valid bit) bit) s c)
 
--- the state after a step whose reply was refused memory
+-- a step whose reply got no memory leaves the state as it was
 unchanged_by : (takes : Bool) (o : Outcome) (s t : State) (reply : Reply) → takes_memory reply ≡ takes → (takes_memory o.reply ≡ true → o.state ≡ s) → o ≡ record { reply = reply; state = t } → (takes_memory reply ≡ false → ⊥) → t ≡ s
 unchanged_by true o s t reply takes leaves is refused =
     sym (ap (λ p. p.state) is) ∙ leaves (ap (λ p. takes_memory p.reply) is ∙ takes)

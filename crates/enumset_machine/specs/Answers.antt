@@ -16,7 +16,7 @@ use Rattle.enumset_commands.specs.Texts.{text}
 abbrev pub commands_of : {C : Type 0} → (List (List ℕ) → Option C) → List ℕ → Result (List C) TextFault
 commands_of command input = if nat_lt 1048576 (length input) then Err TooLong else commands_of_text command input
 
--- the text of the replies to the commands that an input has
+-- the text of the replies to the commands, or the fault of the input
 abbrev pub answer_by : {C : Type 0} → (List C → List Reply) → Result (List C) TextFault → Result (List ℕ) TextFault
 answer_by replies (Ok commands) = Ok (text (replies commands))
 answer_by replies (Err fault) = Err fault

@@ -53,7 +53,7 @@ is_field_within width (Value _ value) = set.is_subset (bits value) (set.below wi
 is_field_within width (WordsOf ws) = set.is_subset (bits_of ws) (set.below width)
 is_field_within width _ = true
 
--- a full complement has every other bit of the representation
+-- a full complement is within no width, since it yields all bits below the width of the run that its operand lacks
 abbrev pub is_within : ℕ → MixedCommand → Bool
 is_within width (FullComplement to a) = false
 is_within width c = list_all (is_field_within width) (mixed_plan c).fields

@@ -32,7 +32,8 @@ pub fn greatest_bit<R: EnumSetTypeRepr>(repr: &R) -> Option<u32>
 {
     learn_members(repr);
     let mut end = R::PREFERRED_ARRAY_LEN;
-    // Words that are 0 are skipped sixteen at a time, here and in `least_bit_from_word`.
+    // Words that are 0 are skipped sixteen at a time, here and in `least_bit_from_word`. What this saves is in
+    // `docs/DECISIONS.md`.
     while end >= 16 && are_zero(repr, end - 16, end) {
         end -= 16;
     }

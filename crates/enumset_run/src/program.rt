@@ -46,7 +46,7 @@ fn read_arguments<E: Env>(env: &E) -> Result<Worked, ProgramFault>
     type_of_arguments(first, &name, second)
 }
 
-/// No name of a type has more bytes than [`NAME_LIMIT`]. The call does nothing at run time.
+/// Tells the proof that each name of a type has at most [`NAME_LIMIT`] bytes. The call does nothing at run time.
 fn names_fit()
     ensures { list_all (λ row. nat_lt (length row.0) (NAME_LIMIT + 1)) names ≡ true }
 {}

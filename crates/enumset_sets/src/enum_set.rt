@@ -397,6 +397,7 @@ impl<T: EnumSetType> EnumSet<T> {
         ensures asks { result.asks ≡ 0 }
         ensures span { result.span ≤ T.Repr.PREFERRED_ARRAY_LEN }
         ensures valid { IsTrue (set.is_subset self.now (valid_bits T.elements)) }
+        // This holds whatever the body does: it says what the steps of any iterator yield.
         ensures runs { EveryRun ⟦<EnumSetIter<T> as Iterator>⟧.next_gives
             (λ run. ItemsMapTo run T.elements.bit run.from.items) }
         ensures fits { length result.items < 2 ^ 32 }

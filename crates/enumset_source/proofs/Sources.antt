@@ -1,4 +1,4 @@
--- Tokens, one token at a time.
+-- The text of a list of tokens, when one more token is read.
 use Rattle.std.proofs.Common.{◌≡◌, ℕ, List, [], ◌∷◌, ◌++◌, length, refl, ap, sym, ◌∙◌, append_assoc, arith}
 use Rattle.enumset_source.specs.Sources.{written}
 use Rattle.enumset_source.specs.declared.tokens.Token.{Token}

@@ -16,7 +16,7 @@ abbrev pub written : List Token → List ℕ
 written [] = []
 written (t ∷ ts) = t.space.now ++ t.text.now ++ written ts
 
--- 10 is the line feed; a number past the greatest `u32` stays there
+-- 10 is the line feed. The number of a line or a column grows up to the greatest `u32`, and then stays as it is
 abbrev pub place_after : Place → ℕ → Place
 place_after place character =
     if character == 10 then record { line = min (place.line + 1) (2 ^ 32 - 1); column = 1 }

@@ -137,6 +137,7 @@ pub fn tokens_of(alloc: Global, source: &str) -> Result<Vec<Token<'_>>, TokenErr
     let mut open = Vec::new(alloc);
     let mut end = Place::BEGIN;
     let mut rest = source;
+    // Each token but the last has at least one byte. The bound shows that the loop ends: a `while` would need a proof.
     for _ in 0..=source.len() {
         let (token, after) = first_token(rest, end)?;
         let depth = take_bracket(&mut open, &token)?;

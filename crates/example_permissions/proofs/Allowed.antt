@@ -10,7 +10,7 @@ granted_more : (grants : List Grant) (few many : BitSet) → ((q : ℕ) → cont
 granted_more [] few many within q one = one
 granted_more (g ∷ gs) few many within q one = let rest = granted_more gs few many within q in let here = within (role_bit g.role) in grind arith
 
--- the first premise of each is always true: it tells the search where to apply the law
+-- the first part of each is always true: it tells the search where to apply the law
 pub inserted : (grants : List Grant) (roles : BitSet) (role q : ℕ)
     → (is_granted grants (insert roles role) q ≡ is_granted grants (insert roles role) q) × (is_granted grants roles q ≡ true → is_granted grants (insert roles role) q ≡ true)
 inserted grants roles role q = (refl, granted_more grants roles (insert roles role) (λ q one. grind (arith, members)) q)

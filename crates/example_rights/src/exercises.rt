@@ -17,7 +17,7 @@ pub fn take_first(granted: &mut EnumSet<Right>) -> Option<Right>
 }
 
 /// The granted rights without the revoked ones, which are removed one by one.
-pub fn without_each<T: EnumSetType>(granted: EnumSet<T>, revoked: &EnumSet<T>) -> EnumSet<T>
+pub fn not_revoked<T: EnumSetType>(granted: EnumSet<T>, revoked: &EnumSet<T>) -> EnumSet<T>
     ensures { result ≡ set.difference granted revoked.now }
 {
     let mut left = granted;

@@ -76,7 +76,7 @@ pub fn read(alloc: Global, text: &str) -> Result<EnumSet<Feature>, Refusal>
     Ok(Feature::from_json_text(alloc, text)?)
 }
 
-/// Features if all that is required is among them.
+/// The features, if all required ones are among them, else the required ones that are missing.
 pub fn required(
     features: &EnumSet<Feature>,
     required: &EnumSet<Feature>,
@@ -94,7 +94,7 @@ pub fn required(
     }
 }
 
-/// Features if none of them is forbidden.
+/// The features, if none of them is forbidden, else those that are.
 pub fn permitted(
     features: &EnumSet<Feature>,
     forbidden: &EnumSet<Feature>,

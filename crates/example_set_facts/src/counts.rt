@@ -111,7 +111,7 @@ pub fn is_whole<T: EnumSetType>(part: &EnumSet<T>, whole: &EnumSet<T>) -> bool
     part.len() == whole.len()
 }
 
-/// The only member, if there is one alone.
+/// The member of a set that has exactly one.
 pub fn sole<T: EnumSetType>(members: &EnumSet<T>) -> Option<T>
     ensures sole { IfSome result (λ t. members.now ≡ set.only (T.elements.bit t)) }
     ensures none { IfNone result (set.len members.now ≢ 1) }

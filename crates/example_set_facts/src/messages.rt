@@ -75,7 +75,7 @@ pub fn is_supported(byte: u8, supported: EnumSet<Flag>) -> bool
     }
 }
 
-/// What two bytes have in common, as far as it is known.
+/// The flags that both bytes have. Bits that are no flag are dropped.
 pub fn negotiated(ours: u8, theirs: u8) -> EnumSet<Flag>
     ensures common { result ≡ set.intersection (set.intersection (bits ours) (bits theirs))
         (valid_bits ⟦<Flag as EnumSetType>⟧.elements) }

@@ -185,7 +185,8 @@ size_uses v s t b n within apart = (
   λ same. ap (λ r. Some r) (set.subset_equality s v within same),
 )
 
--- thirty-two seats are not enough for more members, and one who has a seat among seven is among any eight of ten
+-- with more than 32 members, a set has one from 32 on; two sets below 64 with more than 64 members together share one;
+-- a function from a larger set into a smaller one takes one value twice
 pub member_uses : (s t : BitSet) (f : ℕ → ℕ) → 32 < len s → len t < len s → is_subset s (below 64) ≡ true → is_subset t (below 64) ≡ true → 64 < len s + len t
     → ((b : ℕ) → contains s b ≡ true → contains t (f b) ≡ true)
     → ((b : ℕ) × (contains s b ≡ true)) × ((b : ℕ) × (contains s b ≡ true) × (contains t b ≡ false)) × ((b : ℕ) × (contains s b ≡ true) × (32 ≤ b))

@@ -2,7 +2,7 @@
 #[derive(enumset::EnumSetType, Debug)]
 #[enumset(no_ops)]
 pub enum Day {
-    /// The first.
+    /// The first day of a week.
     Monday = 1,
     Tuesday,
     Wednesday,

@@ -5,7 +5,7 @@ use enumset::{EnumSetType, EnumSetTypeWithRepr};
 /// Days of a week.
 #[derive(Clone, Copy, PartialEq, Eq, Debug)]
 pub enum Day {
-    /// The first.
+    /// The first day of a week.
     Monday = 1,
     Tuesday,
     Wednesday,

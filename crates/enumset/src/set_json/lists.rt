@@ -42,5 +42,5 @@ pub fn from_list<T: EnumSetNames>(value: &Value, unknown: Unknown) -> Result<Enu
         let name = item.as_str().ok_or(JsonFault::NotAText(place))?;
         names.take(name.as_bytes(), true, place);
     }
-    names.decided(unknown)
+    names.into_set(unknown)
 }

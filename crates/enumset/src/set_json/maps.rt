@@ -43,5 +43,5 @@ pub fn from_map<T: EnumSetNames>(value: &Value, unknown: Unknown) -> Result<Enum
         let is_member = value.as_bool().ok_or(JsonFault::NotABoolean(place))?;
         names.take(name.as_bytes(), is_member, place);
     }
-    names.decided(unknown)
+    names.into_set(unknown)
 }

@@ -3,7 +3,7 @@
 ghost use Rattle.std.specs.Prelude.{◌≡◌, Some, None, if◌then◌else◌};
 ghost use Rattle.std.specs.Option.{option_map_or, option_or};
 ghost use Rattle.enumset_repr.specs.BitSet.{empty, insert};
-ghost use Rattle.enumset.specs.JsonNames.{decided, is_unknown};
+ghost use Rattle.enumset.specs.JsonNames.{unless_unknown, is_unknown};
 ghost use Rattle.enumset.specs.Names.{names_of, bit_named};
 
 use super::fault::JsonFault;
@@ -56,8 +56,8 @@ impl<T: EnumSetNames> NamesRead<T> {
 
     /// Returns the set of the names, or [`JsonFault::UnknownName`] if a name is unknown and such names are refused.
     #[inline(always)]
-    pub(super) fn decided(self, unknown: Unknown) -> Result<EnumSet<T>, JsonFault>
-        ensures { result ≡ decided unknown self.first_unknown self.set }
+    pub(super) fn into_set(self, unknown: Unknown) -> Result<EnumSet<T>, JsonFault>
+        ensures { result ≡ unless_unknown unknown self.first_unknown self.set }
     {
         match (unknown, self.first_unknown) {
             (Unknown::Refuse, Some(place)) => Err(JsonFault::UnknownName(place)),

@@ -69,7 +69,7 @@ pub(super) fn read_plain_list<T: EnumSetNames>(
         let (name, rest) = split_string(left)?;
         names.take(name, true, place);
         if let Some(end) = after_byte(rest, b']') {
-            return are_spaces(end).then_some(names.decided(unknown));
+            return are_spaces(end).then_some(names.into_set(unknown));
         }
         left = after_byte(after_byte(rest, b',')?, b'"')?;
     }

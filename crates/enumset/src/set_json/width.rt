@@ -25,6 +25,7 @@ impl JsonWidth {
     /// Returns how many bits the type has.
     pub fn bits(self) -> u32
         ensures bits { result ≡ width_of self }
+        // This holds whatever the body does. Callers learn it.
         ensures narrow { width_of self ≤ 64 }
     {
         match self {

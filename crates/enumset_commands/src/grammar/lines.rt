@@ -24,7 +24,7 @@ impl<'a> Lines<'a> {
     ghost use Rattle.std.specs.Prelude.{◌≤◌, length};
     ghost use Rattle.std.specs.Str.Lines.{lines};
 
-    /// Returns the lines of a text. There are at most as many as bytes.
+    /// Returns the lines of a text. A text has no more lines than bytes.
     #[tactic(auto, using(crate::proofs::Lines::lines_are_few))]
     pub fn new(text: &'a [u8]) -> Lines<'a>
         ensures lines { result ≡ lines text.now }

@@ -22,12 +22,12 @@ pub known : (n : ℕ) (next : Type 0) → next → once_known n next
 known zero next h = h
 known (suc n) next h = h
 
--- one test, with another fault and another next test
+-- an `or_else` implies another one with the same test, if its fault implies the other's, and its next test the other's
 carried : (test : Bool) (fault fault' next next' : Type 0) → (fault → fault') → (next → next') → or_else test fault next → or_else test fault' next'
 carried true fault fault' next next' f g h = g h
 carried false fault fault' next next' f g h = f h
 
--- the test that counts the variants, for two enums with as many
+-- the test that the bits are as many as the variants, for two enums with equally many variants
 counted : (m n n' : ℕ) (next next' : Type 0) → n ≡ n' → (next → next') → or_else (m == n) (BitCountShouldBe n) next → or_else (m == n') (BitCountShouldBe n') next'
 counted m n n' next next' same g h =
     let P : ℕ → Type 0 = λ k. or_else (m == k) (BitCountShouldBe k) next' in

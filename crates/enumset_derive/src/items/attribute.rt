@@ -29,6 +29,7 @@ impl<'a, 'b> Attribute<'a, 'b> {
     ) -> Result<(Vec<Attribute<'a, 'b>>, &'b [Token<'a>]), AllocError> {
         let mut attributes = Vec::new(alloc);
         let mut rest = tokens;
+        // Each iteration takes at least one token. The bound shows that the loop ends.
         for _ in 0..tokens.len() {
             let length = attribute_length(rest);
             if length == 0 {

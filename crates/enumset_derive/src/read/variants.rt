@@ -26,6 +26,7 @@ pub(super) fn read_body<'a, 'b>(
     let mut variants: Vec<Variant> = Vec::new(report.alloc);
     let mut last_comments = Vec::new(report.alloc);
     let mut rest = body;
+    // Each iteration takes at least one token. The bound shows that the loop ends.
     for _ in 0..body.len() {
         // Too many variants are a fault of the plan, for which one too many is enough.
         if variants.len() > 256 {

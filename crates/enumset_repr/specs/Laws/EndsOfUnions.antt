@@ -51,7 +51,7 @@ least_union s t a b first other = elim (cases_lt a b) [
   | inr over ↦ ap least (union_comm s t) ∙ least_lower t s b a other first over ∙ ap (λ n. Some n) (sym (min-eq_right over))
 ]
 
--- a subset begins no lower
+-- the least member of a subset is at least that of the set
 pub least_subset : (s t : BitSet) (a b : ℕ) → is_subset s t ≡ true → least s ≡ Some a → least t ≡ Some b → b ≤ a
 least_subset s t a b within first other =
     let one = is_subset_contains s t within a (least_facts s a first).0 in
@@ -86,7 +86,7 @@ greatest_union s t a b last other = elim (cases_lt b a) [
   | inr under ↦ ap greatest (union_comm s t) ∙ greatest_higher t s b a other last under ∙ ap (λ n. Some n) (sym (max-eq_right under))
 ]
 
--- a subset ends no higher
+-- the greatest member of a subset is at most that of the set
 pub greatest_subset : (s t : BitSet) (a b : ℕ) → is_subset s t ≡ true → greatest s ≡ Some a → greatest t ≡ Some b → a ≤ b
 greatest_subset s t a b within last other =
     let one = is_subset_contains s t within a (greatest_facts s a last).0 in

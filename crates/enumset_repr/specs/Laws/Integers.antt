@@ -66,7 +66,7 @@ integer_operators w = record {
 
 -- ---- words
 
--- `n` at a width of at most 64 bits is its only word
+-- a number below 2^64 is the only word of its bits
 pub word_whole : (n i : ℕ) → n < 2 ^ 64 → i < 1 → word (bits n) i ≡ n
 word_whole n i fits first =
     let place : i ≡ 0 = omega (arith, first) in

@@ -43,15 +43,15 @@ retain_insert s b p = same_set _ _ (at (p b) refl) where
   at true is q = grind (arith, members, nat_tests)
   at false is q = grind (arith, members, nat_tests)
 
--- a test over a union
+-- what passes of a union is what passes of either set
 pub retain_union : (s t : BitSet) (p : ℕ → Bool) → retain (union s t) p ≡ union (retain s p) (retain t p)
 retain_union s t p = same_set _ _ (λ b. grind (arith, members))
 
--- a test over an intersection
+-- what passes of an intersection is what passes of both sets
 pub retain_intersection : (s t : BitSet) (p : ℕ → Bool) → retain (intersection s t) p ≡ intersection (retain s p) (retain t p)
 retain_intersection s t p = same_set _ _ (λ b. grind (arith, members))
 
--- a test over a difference
+-- what passes of a difference is what passes of the first set and not of the second
 pub retain_difference : (s t : BitSet) (p : ℕ → Bool) → retain (difference s t) p ≡ difference (retain s p) (retain t p)
 retain_difference s t p = same_set _ _ (λ b. grind (arith, members))
 

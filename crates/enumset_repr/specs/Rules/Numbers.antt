@@ -19,7 +19,7 @@ use Rattle.enumset_repr.specs.Laws.Sums.{sum_subset}
 
 -- ---- the order
 
--- a call that shows a set whose number is in sight
+-- a dummy term that shows the search each set whose number is in sight
 pub numbered : BitSet → Bool → Bool
 numbered s w = w
 

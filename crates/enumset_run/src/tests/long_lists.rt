@@ -10,7 +10,7 @@ use std::test::Fail;
 /// More commands than an input has bytes.
 const COMMANDS: usize = (1 << 20) + 1;
 
-/// Whether there is a reply to each of the commands, and each says that a set is empty.
+/// Checks that each command has a reply, and that each reply is 0.
 fn all_are_empty(rt: &impl Abort, replies: &[Reply]) {
     assert_eq!(rt; replies.len(), COMMANDS);
     for reply in replies {

@@ -48,7 +48,7 @@ search_open step sets (suc n) = elim (cases_Bool (is_subset (step sets n) (set_a
 module _ (step : List BitSet → ℕ → BitSet) (start sets : List BitSet) (monotone : IsMonotoneForMany step) (are : AreLeastClosed step start sets) (P : ℕ → ℕ → Type 0)
     (first : (place q : ℕ) → contains (set_at start place) q ≡ true → P place q)
     (next : (some : List BitSet) → ((place q : ℕ) → contains (set_at some place) q ≡ true → P place q) → (place q : ℕ) → contains (step some place) q ≡ true → P place q) where
-  -- the set in one place gets what follows there
+  -- what `step` makes in one place is added to the set there
   module _ (some : List BitSet) (place : ℕ) (here : place < length some) where
     abbrev more : List BitSet
     more = set some place (union (set_at some place) (step some place))

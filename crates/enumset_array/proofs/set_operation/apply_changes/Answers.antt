@@ -7,8 +7,8 @@ use Rattle.enumset_array.proofs.set_operation.apply_changes.Goals as goal
 first : (g : Over) (c : goal.After-repr-1 g) → IsArrayRepr g.row.N c.repr.inside.0
 first g c = record { long = search rules; fit = search rules; past = c.repr.invariant }
 
-value : (g : Over) (c : goal.After-repr-1 g) → IsArrayRepr g.row.N c.apply_changes.new.words
-value g c = rw (c.apply_changes.ensures.words, c.words.ensures.words) (made_repr _ _ g.met.O.SetOperation.on_bits _ _ _ (first g c) c.words.ensures.value)
+value : (g : Over) (c : goal.After-repr-1 g) → IsArrayRepr g.row.N c.change_words.new.words
+value g c = rw (c.change_words.ensures.words, c.words.ensures.words) (made_repr _ _ g.met.O.SetOperation.on_bits _ _ _ (first g c) c.words.ensures.value)
 
 pub invariant_of-repr : goal.invariant_of-repr
 invariant_of-repr g c = (value g c).past
@@ -16,6 +16,6 @@ invariant_of-repr g c = (value g c).past
 pub returns : goal.returns
 returns g c = record {
   value = value g c;
-  set = rw (c.apply_changes.ensures.words, c.words.ensures.words, ← c.repr.view_is) (made_set _ _ g.met.O.SetOperation.on_bits _ _ _ (first g c) c.words.ensures.value);
-  changed = rw (c.apply_changes.ensures.changed, c.apply_changes.ensures.words, c.words.ensures.words, ← c.repr.view_is) (ap not (made_same _ _ g.met.O.SetOperation.on_bits _ _ _ (first g c) c.words.ensures.value));
+  set = rw (c.change_words.ensures.words, c.words.ensures.words, ← c.repr.view_is) (made_set _ _ g.met.O.SetOperation.on_bits _ _ _ (first g c) c.words.ensures.value);
+  changed = rw (c.change_words.ensures.changed, c.change_words.ensures.words, c.words.ensures.words, ← c.repr.view_is) (ap not (made_same _ _ g.met.O.SetOperation.on_bits _ _ _ (first g c) c.words.ensures.value));
 }

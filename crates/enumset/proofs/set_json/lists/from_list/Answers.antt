@@ -38,8 +38,8 @@ loop-place-preserved g c =
 pub returns : goal.returns
 returns g c =
     let names = names_of g.T.EnumSetType.elements g.T.EnumSetNames.names in
-    let whole : c.decided.result ≡ set_of_values names c.args.unknown (values_of (items_view c.deref-item-items.result.now)) =
-    c.decided.ensures
+    let whole : c.into_set.result ≡ set_of_values names c.args.unknown (values_of (items_view c.deref-item-items.result.now)) =
+    c.into_set.ensures
     ∙ sym (read_end _ _ _ _ names c.args.unknown c.loop-place.place c.loop-place.names.set c.loop-place.names.first_unknown _ (ap (map view) (drop_all c.loop-place.place c.deref-item-items.result.now c.loop-place-test.false)))
     ∙ c.loop-place.invariant
     ∙ list_read names c.args.unknown c.deref-item-items.result.now in

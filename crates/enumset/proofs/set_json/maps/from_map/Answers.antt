@@ -38,8 +38,8 @@ loop-place-preserved g c =
 pub returns : goal.returns
 returns g c =
     let names = names_of g.T.EnumSetType.elements g.T.EnumSetNames.names in
-    let whole : c.decided.result ≡ set_of_members names c.args.unknown (members_in (members_view c.in_ok-members.members.now.entries)) =
-    c.decided.ensures
+    let whole : c.into_set.result ≡ set_of_members names c.args.unknown (members_in (members_view c.in_ok-members.members.now.entries)) =
+    c.into_set.ensures
     ∙ sym (read_end _ _ _ _ names c.args.unknown c.loop-place.place c.loop-place.names.set c.loop-place.names.first_unknown _ (ap (map seen) c.in-None.ensures.steps.0))
     ∙ c.loop-place.invariant.1
     ∙ ap (λ ms. map_on names c.args.unknown 0 empty None (map seen ms)) c.iter-name-items.ensures.rest

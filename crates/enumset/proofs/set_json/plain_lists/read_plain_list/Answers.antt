@@ -5,7 +5,7 @@ use Rattle.enumset.proofs.JsonScans.{some_if}
 use Rattle.enumset.proofs.PlainTexts.{Closes, Next, NamesLeft, next, no_next, closes_here, goes_on_here, next_or_end, passed_less, plain_list, names_some, name_found, no_name_found}
 use Rattle.enumset.proofs.PlainWords.{kept_if}
 use Rattle.enumset.proofs.set_json.plain_lists.read_plain_list.Goals as goal
-use Rattle.enumset.specs.JsonNames.{set_of_list, decided}
+use Rattle.enumset.specs.JsonNames.{set_of_list, unless_unknown}
 use Rattle.enumset.specs.Names.{names_of}
 
 -- what follows the opening bracket
@@ -21,7 +21,7 @@ returns-in-Some g c =
     let rest = c.in_ok-rest.rest.now in
     let end = c.in-Some.end.now in
     record {
-      set = kept_if _ c.then_some.result _ _ c.then_some.ensures (λ all. is_read (set_of_list names c.args.unknown) c.args.text.now (decided c.args.unknown None empty) (Ok c.new.result)
+      set = kept_if _ c.then_some.result _ _ c.then_some.ensures (λ all. is_read (set_of_list names c.args.unknown) c.args.text.now (unless_unknown c.args.unknown None empty) (Ok c.new.result)
           (none_named names c.args.unknown c.args.text.now _ c.in_ok-rest.rest.now c.in-Some.end.now c.as_bytes.ensures.value c.in_ok-rest.ensures.passed c.in-Some.ensures.passed (c.are_spaces.ensures.0 all))
           (no_unknown c.args.unknown c.new.result empty c.new.ensures));
       plain = λ plain.
@@ -90,11 +90,11 @@ returns-in-Some-after_byte g c =
     let rest = c.in_ok-name.rest.now in
     let end = c.in-Some-after_byte.end.now in
     record {
-      set = kept_if _ c.then_some-in-Some-after_byte.result _ _ c.then_some-in-Some-after_byte.ensures (λ all. is_read (set_of_list names c.args.unknown) c.args.text.now (decided c.args.unknown new.first_unknown new.set) c.decided.result
+      set = kept_if _ c.then_some-in-Some-after_byte.result _ _ c.then_some-in-Some-after_byte.ensures (λ all. is_read (set_of_list names c.args.unknown) c.args.text.now (unless_unknown c.args.unknown new.first_unknown new.set) c.into_set.result
           (ends names c.args.unknown c.args.text.now c.loop-place.left.now c.in_ok-name.name.now c.in_ok-name.rest.now c.loop-place.place
           old.set new.set old.first_unknown new.first_unknown c.loop-place.invariant.0 c.in_ok-name.ensures.plain c.in_ok-name.ensures.whole c.take.ensures.set c.take.ensures.first
           c.in-Some-after_byte.end.now c.in-Some-after_byte.ensures.passed (c.are_spaces-in-Some-after_byte.ensures.0 all))
-          c.decided.ensures);
+          c.into_set.ensures);
       plain = λ plain.
           let more = name_found c.loop-place.left.now (c.loop-place.invariant.2 plain) c.in_ok-name.name.now c.in_ok-name.rest.now c.in_ok-name.ensures.found in
           some_if c.then_some-in-Some-after_byte.result _ _ c.then_some-in-Some-after_byte.ensures (c.are_spaces-in-Some-after_byte.ensures.1 (closes_here (Next 44 (Next 34 NamesLeft)) 93 rest end refl (next_or_end (Next 34 NamesLeft) 44 93 rest end refl refl refl) more c.in-Some-after_byte.ensures.passed));

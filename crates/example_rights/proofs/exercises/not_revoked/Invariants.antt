@@ -1,6 +1,6 @@
 use Rattle.std.proofs.Common.{◌≡◌}
 use Rattle.enumset.specs.Sets.{from_list, difference}
-use Rattle.example_rights.proofs.exercises.without_each.Given as goal
+use Rattle.example_rights.proofs.exercises.not_revoked.Given as goal
 
 -- what is left, without the rights still to be revoked
 abbrev pub invariant-loop-right : goal.invariant-loop-right
