@@ -1,6 +1,6 @@
 //! Changes between two versions of a configuration.
 
-ghost use Rattle.std.specs.Prelude.{◌≡◌, ◌↔◌, true, false, not, fold, count_by, position, option_map};
+ghost use Rattle.std.specs.Prelude.{◌≡◌, ◌↔◌, true, false, not, map, count_by, position, option_map};
 ghost use Rattle.std.specs.List.{list_all, list_any, find};
 ghost use Rattle.enumset.specs.Sets as set;
 ghost use Rattle.enumset.specs.Sets.{BitSet};
@@ -149,7 +149,7 @@ pub fn is_added(changes: &[Change], wanted: Feature) -> bool
 
 /// The features that many changes add, together.
 pub fn all_added(changes: &[Change]) -> EnumSet<Feature>
-    ensures { result ≡ fold (λ all change. set.union all change.added) set.empty changes.now }
+    ensures { result ≡ set.union_all (map (λ change. change.added) changes.now) }
 {
     changes
         .iter()
@@ -158,7 +158,7 @@ pub fn all_added(changes: &[Change]) -> EnumSet<Feature>
 
 /// The features that many changes add, united in a loop.
 pub fn added_in_turn(changes: &[Change]) -> EnumSet<Feature>
-    ensures { result ≡ fold (λ all change. set.union all change.added) set.empty changes.now }
+    ensures { result ≡ set.union_all (map (λ change. change.added) changes.now) }
 {
     let mut all = EnumSet::new();
     for change in changes {

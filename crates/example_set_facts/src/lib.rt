@@ -2,7 +2,7 @@
 //! what they need, messages, versions, configurations, texts in JSON, alarms, a council and its votes, partitions,
 //! slices of elements and counts. Most are over one enum: in place in a small integer, in 64 bits or in two words, with
 //! gaps, or with masks. Besides that line, loops have an invariant, a few functions name a ruleset or a definition to
-//! unfold of their own, and nine have a proof, four of them about what features need in turn.
+//! unfold of their own, and eleven have a proof, four of them about what features need in turn.
 #![tactic(auto, using(enumset::specs::Sets::set_laws))]
 
 pub mod access;

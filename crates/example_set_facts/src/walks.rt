@@ -1,6 +1,6 @@
 //! Loops over sets. Each has an invariant in `proofs/walks`: what there is so far, and what remains, make the whole.
 
-ghost use Rattle.std.specs.Prelude.{◌≡◌, fold};
+ghost use Rattle.std.specs.Prelude.{◌≡◌};
 ghost use Rattle.enumset.specs.Sets as set;
 
 use enumset::{EnumSet, EnumSetType};
@@ -49,7 +49,7 @@ pub fn sorted_out<T: EnumSetType>(
 
 /// The union of many sets, made in a loop.
 pub fn united<T: EnumSetType>(sets: &[EnumSet<T>]) -> EnumSet<T>
-    ensures { result ≡ fold set.union set.empty sets.now }
+    ensures { result ≡ set.union_all sets.now }
 {
     let mut all = EnumSet::new();
     for members in sets {
