@@ -514,7 +514,8 @@ impl Setting {
             (names_of ⟦<Setting as EnumSetType>⟧.elements ⟦<Setting as EnumSetNames>⟧.names)
             unknown.Drop) text.now result }
         ensures plain { IsPlainMap
-            (names_of ⟦<Setting as EnumSetType>⟧.elements ⟦<Setting as EnumSetNames>⟧.names) text.now → IsResult (value_read (set_of_map
+            (names_of ⟦<Setting as EnumSetType>⟧.elements ⟦<Setting as EnumSetNames>⟧.names) text.now →
+            IsResult (value_read (set_of_map
             (names_of ⟦<Setting as EnumSetType>⟧.elements ⟦<Setting as EnumSetNames>⟧.names)
             unknown.Drop) text.now) result }
     {

@@ -1,3 +1,4 @@
 pub mod Named
 pub mod Sums
 pub mod Tests
+pub mod JsonNames

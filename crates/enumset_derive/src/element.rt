@@ -2,12 +2,13 @@
 
 use crate::fault::{Fault, Reading, Reason};
 use crate::plan::{
-    EnumDeclaration, Implied, NamedVariant, Plan, Store, discriminant_after, discriminant_of,
-    plan_enum,
+    EnumDeclaration, Implied, Library, NamedVariant, Plan, Store, discriminant_after,
+    discriminant_of, plan_enum,
 };
 use crate::report::Report;
 use enumset_source::{Number, Place, Token};
-use std::collections::BTreeMap;
+use std::alloc::Global;
+use std::collections::{BTreeMap, BTreeSet};
 
 const DROPPED: &str =
     "left out: the discriminants of this enum, since this one is outside -2^63 to 2^63 - 1; \
@@ -20,6 +21,12 @@ const ORDERED: &str =
 const OTHER_CRATE: &str = "all enums of a source must have the same `crate_name`";
 
 const TAKEN: &str = "the module imports this name from `enumset`: choose another name";
+
+const ERROR_TAKEN: &str =
+    "under `parse` the error of another enum has this name: choose another name";
+
+const NO_TABLE: &str =
+    "more than 16 variants whose bits are not their places need `enumset`: remove this `crate_name`";
 
 /// The names of types that a module may import.
 const IMPORTED: [&str; 5] = [
@@ -53,15 +60,29 @@ pub fn elements_of<'a, 'b>(
             test_order(report, &declaration, place)?;
         }
         match plan_enum(report.alloc, &declaration)? {
-            Ok(plan) => elements.push(Element {
-                declaration,
-                plan,
-                has_discriminants: past.is_none(),
-            })?,
+            Ok(plan) => {
+                let element = Element {
+                    declaration,
+                    plan,
+                    has_discriminants: past.is_none(),
+                };
+                test_table(report, &element)?;
+                elements.push(element)?;
+            }
             Err(faults) => report.faults.extend(faults)?,
         }
     }
     Ok(elements)
+}
+
+/// Reports a table of variants over a library that has no macro for it.
+fn test_table(report: &mut Report, element: &Element) -> Reading {
+    match element.declaration.options.library {
+        Some((Library::SetsAlone, place)) if element.is_in_table() => {
+            report.fault(Reason::Text(NO_TABLE).at(place))
+        }
+        _ => Ok(()),
+    }
 }
 
 /// The place of the first discriminant that Rattle does not allow: it has to be from -2^63 to 2^63 - 1.
@@ -96,12 +117,16 @@ fn test_order(report: &mut Report, declaration: &EnumDeclaration, place: Place) 
     }
 }
 
-/// Reports names that differ only in case, and names that a module imports.
+/// Reports names that differ only in case, and names that a module imports or gives to the errors of `parse`.
 fn test_names(report: &mut Report, enums: &[EnumDeclaration]) -> Reading {
+    let errors = errors_of(report.alloc, enums)?;
     let mut names: BTreeMap<String, &Token> = BTreeMap::new(report.alloc);
     for declaration in enums {
         let name = &declaration.head.name;
         let key = name.text.to_ascii_lowercase(report.alloc)?;
+        if errors.contains(&key) {
+            report.fault(Fault::at(name, ERROR_TAKEN))?;
+        }
         match names.insert(key, name)? {
             Some(first) if first.is(name.text) => {
                 report.fault(Reason::NameTwice(first.place).at(name.place))?;
@@ -116,14 +141,26 @@ fn test_names(report: &mut Report, enums: &[EnumDeclaration]) -> Reading {
     Ok(())
 }
 
-/// Reports enums whose `crate_name` differs from the first enum's.
+/// The names of the errors of `parse`, in lowercase.
+fn errors_of(alloc: Global, enums: &[EnumDeclaration]) -> Reading<BTreeSet<String>> {
+    let mut errors = BTreeSet::new(alloc);
+    for declaration in enums {
+        if declaration.options.is_parsed {
+            let error = format!(in alloc; "parse{}error", declaration.head.name.text)?;
+            errors.insert(error.as_str().to_ascii_lowercase(alloc)?)?;
+        }
+    }
+    Ok(errors)
+}
+
+/// Reports enums that are over another library than the first enum.
 fn test_crate_names(report: &mut Report, enums: &[EnumDeclaration]) -> Reading {
     let [first, others @ ..] = enums else {
         return Ok(());
     };
     for other in others {
-        if other.options.facade() != first.options.facade() {
-            let place = match other.options.crate_name {
+        if other.options.library().name() != first.options.library().name() {
+            let place = match other.options.library {
                 Some((_, place)) => place,
                 None => other.head.name.place,
             };
@@ -140,7 +177,6 @@ impl Element<'_, '_> {
         let has_names = options.has_names();
         let has_form = options.serialized.is_some();
         let is_wide = matches!(self.plan.store, Store::Words(_));
-        let has_macro = options.facade() != "enumset_sets";
         [
             (has_form || !options.leaves_out_operators, "EnumSet"),
             (has_names, "EnumSetNames"),
@@ -149,7 +185,7 @@ impl Element<'_, '_> {
             (is_wide, "internal::ArrayRepr"),
             (has_names, "names_of"),
             (has_form, "set_json"),
-            (has_macro && self.is_in_table(), "variant_of"),
+            (self.is_in_table(), "variant_of"),
         ]
     }
 

@@ -88,6 +88,11 @@ impl fmt::Display for Fault {
     }
 }
 
+const NOT_A_MASK: &str = "a mask must be a power of two; the empty set is `EnumSet::empty()`";
+
+const PAST_GREATEST: &str =
+    "a bit must be from 0 to 65535; `map = \"compact\"` uses the places as bits";
+
 /// What is wrong.
 #[derive(Clone, Copy)]
 pub enum Reason {
@@ -117,27 +122,17 @@ pub enum Reason {
 impl fmt::Display for Reason {
     fn fmt<W: fmt::Write>(&self, f: &mut fmt::Formatter<W>) -> fmt::Result {
         match self {
-            Reason::Text(text) => write!(f, "{text}"),
-            Reason::Expected(what, Kind::Punct, found) if !found.is_ascii() => {
-                write!(f, "expected {what}, found U+{:04X}", u32::from(*found))
-            }
-            Reason::Expected(what, Kind::Punct, found) => {
-                write!(f, "expected {what}, found `{found}`")
-            }
-            Reason::Expected(what, kind, _) => write!(f, "expected {what}, found {kind}"),
+            Reason::Text(text) => f.write_str(text),
+            Reason::Expected(what, kind, found) => write_expected(f, what, *kind, *found),
             Reason::GivenTwice(what, first) => {
                 write!(f, "this {what} was already given at {first}")
             }
-            Reason::IntegerMissing => write!(f, "`map = \"msb\"` needs `repr` to be an integer"),
-            Reason::TooManyVariants => write!(f, "an enum may have at most 256 variants"),
+            Reason::IntegerMissing => f.write_str("`map = \"msb\"` needs `repr` to be an integer"),
+            Reason::TooManyVariants => f.write_str("an enum may have at most 256 variants"),
             Reason::NameTwice(first) => write!(f, "this name was already given at {first}"),
-            Reason::NotAMask => {
-                f.write_str("a mask must be a power of two; the empty set is `EnumSet::empty()`")
-            }
-            Reason::PastGreatest => f.write_str(
-                "a bit must be from 0 to 65535; `map = \"compact\"` uses the places as bits",
-            ),
-            Reason::ImpliedTooLarge => write!(f, "the implied discriminant is past 2^128"),
+            Reason::NotAMask => f.write_str(NOT_A_MASK),
+            Reason::PastGreatest => f.write_str(PAST_GREATEST),
+            Reason::ImpliedTooLarge => f.write_str("the implied discriminant is past 2^128"),
             Reason::PastRepresentation { bit, width } => {
                 write!(f, "`repr` is too small: bit {bit}, width {width}")
             }
@@ -148,13 +143,25 @@ impl fmt::Display for Reason {
             Reason::DiscriminantTwice(first) => {
                 write!(f, "this discriminant was already taken at {first}")
             }
-            Reason::OtherCase(first) => {
-                write!(
-                    f,
-                    "this name and the one at {first} differ only in case: choose another name"
-                )
-            }
+            Reason::OtherCase(first) => write!(
+                f,
+                "this name and the one at {first} differ only in case: choose another name"
+            ),
         }
+    }
+}
+
+/// Writes what is expected, and what was found: a token of this kind that begins with this character.
+fn write_expected<W: fmt::Write>(
+    f: &mut fmt::Formatter<W>,
+    what: &str,
+    kind: Kind,
+    found: char,
+) -> fmt::Result {
+    match kind {
+        Kind::Punct if found.is_ascii() => write!(f, "expected {what}, found `{found}`"),
+        Kind::Punct => write!(f, "expected {what}, found U+{:04X}", u32::from(found)),
+        _ => write!(f, "expected {what}, found {kind}"),
     }
 }
 

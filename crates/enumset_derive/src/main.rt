@@ -162,7 +162,10 @@ fn derive<R: Input + Eprint + AllocGlobal>(rt: &R, request: &Request) -> Outcome
     }
     Ok(Some(Output {
         module: module_text(alloc, request, &docs, &elements)?,
-        bits: bits_text(alloc, request, &elements)?,
+        bits: match request.bits {
+            Some(_) => Some(bits_text(alloc, request, &elements)?),
+            None => None,
+        },
     }))
 }
 

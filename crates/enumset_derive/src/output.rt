@@ -1,4 +1,4 @@
-//! Writes the module and the file of terms: both or neither.
+//! Writes the module and the file of terms, or neither if one of these files cannot be opened.
 
 use crate::Request;
 use crate::fault::{DeriveError, Outcome};
@@ -12,8 +12,8 @@ const SAME_FILE: DeriveError = DeriveError::Arguments("-o and --bits name the sa
 #[derive(Drop)]
 pub struct Output {
     pub module: String,
-    /// The terms for clauses.
-    pub bits: String,
+    /// The terms for clauses, if they are asked for.
+    pub bits: Option<String>,
 }
 
 /// A file that can be written.
@@ -24,8 +24,9 @@ struct Target<'a> {
     is_new: bool,
 }
 
-/// Writes the module, and the terms if they are asked for. Before one file is changed, it opens both. If it fails, it
-/// removes the files that were not there before.
+/// Writes the module, and the terms if they are asked for. It opens both files before it changes one, so only a failure
+/// of writing itself, such as a full disk, can leave a file cut off, and the other one new. If it fails, it removes the
+/// files that were not there before.
 pub fn write_output<R: Files + Print + AllocGlobal>(
     rt: &R,
     request: &Request,
@@ -63,9 +64,9 @@ fn write_both<R: Files + Print + AllocGlobal>(
             written.map_err(|error| DeriveError::Stream("writing failed", error))?;
         }
     }
-    match bits {
-        Some(bits) => write_file(rt, bits.name, &output.bits),
-        None => Ok(()),
+    match (bits, &output.bits) {
+        (Some(bits), Some(text)) => write_file(rt, bits.name, text),
+        _ => Ok(()),
     }
 }
 

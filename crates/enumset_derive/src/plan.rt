@@ -13,7 +13,7 @@ mod variants;
 
 use crate::fault::{Fault, Reason};
 pub use declaration::{
-    Derive, Discriminant, EnumDeclaration, EnumHead, Given, Line, Options, Rename, Variant,
+    Derive, Discriminant, EnumDeclaration, EnumHead, Given, Library, Line, Options, Rename, Variant,
 };
 use enumset_source::{IntegerType, Map, Number, Place, Representation};
 use std::alloc::{AllocError, Global};

@@ -74,7 +74,7 @@ impl Report {
         let place = attribute.first().map_or(Place::BEGIN, |first| first.place);
         let why = match attribute {
             [_, _, name, ..] if name.is("cfg_attr") => {
-                ": `cfg_attr` is not supported: write what you want of it without it"
+                ": `cfg_attr` is not supported: put the attribute into the source directly"
             }
             _ => " has no meaning here",
         };

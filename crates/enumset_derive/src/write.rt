@@ -12,15 +12,16 @@ mod parsing;
 
 use crate::Request;
 use crate::element::Element;
+use crate::plan::{Library, Options};
 pub use bits::bits_text;
 use element_type::write_element_type;
 use imports::imports_of;
 use std::alloc::{AllocError, Global};
 
-/// What is written, or an error if memory runs out.
-type Written<T = ()> = Result<T, AllocError>;
+/// The result of a step of writing: an error if memory runs out.
+type Writing<T = ()> = Result<T, AllocError>;
 
-type Text = Written<String>;
+type Text = Writing<String>;
 
 /// The element type that is being written, and its module.
 #[derive(Clone, Copy)]
@@ -30,24 +31,15 @@ struct Subject<'r, 's, 'a, 'b> {
     /// The path of its module, with a dot between two names.
     module: &'r str,
     element: &'s Element<'a, 'b>,
-    /// The name by which the module cites the crate `enumset`.
-    facade: &'a str,
+    library: Library<'a>,
     name: &'a str,
 }
 
-/// The name by which the module with these element types cites the crate `enumset`.
-fn facade_of<'a>(elements: &[Element<'a, '_>]) -> &'a str {
+/// The library that the module with these element types is over.
+fn library_of<'a>(elements: &[Element<'a, '_>]) -> Library<'a> {
     match elements {
-        [first, ..] => first.declaration.options.facade(),
-        [] => "enumset",
-    }
-}
-
-/// The crate whose definitions the contracts of a module cite.
-fn library_of(facade: &str) -> &'static str {
-    match facade {
-        "enumset_sets" => "enumset_sets",
-        _ => "enumset",
+        [first, ..] => first.declaration.options.library(),
+        [] => Options::default().library(),
     }
 }
 
@@ -69,7 +61,7 @@ pub fn module_text(alloc: Global, request: &Request, docs: &[&str], elements: &[
             crate_name: request.crate_name,
             module: request.module.as_str(),
             element,
-            facade: element.declaration.options.facade(),
+            library: element.declaration.options.library(),
             name: element.declaration.head.name.text,
         };
         text.push('\n')?;
@@ -80,7 +72,7 @@ pub fn module_text(alloc: Global, request: &Request, docs: &[&str], elements: &[
 }
 
 /// Writes what wrote a file: the arguments of the program, and the enums of its source.
-fn write_origin(out: &mut String, request: &Request, elements: &[Element]) -> Written {
+fn write_origin(out: &mut String, request: &Request, elements: &[Element]) -> Writing {
     write!(
         out,
         "Written by enumset_derive {} {} from ",

@@ -1,5 +1,5 @@
-//! What a Rust source says by itself, whatever enums it has: its tokens, the numbers of literals, the values of options by
-//! their names, and the styles of names in JSON.
+//! What `enumset_derive` reads whatever enums a source has: the tokens with their places, the numbers of literals and of
+//! discriminants, the values of options by their names, and the styles of names in JSON.
 #![tactic(auto)]
 
 pub mod literals;

@@ -1,7 +1,7 @@
 //! The tokens of a source, each with the depth of its brackets.
 
 ghost use Rattle.std.specs.Prelude.{◌≡◌, ◌++◌, IfOk};
-ghost use Rattle.enumset_source.specs.Sources.{written, has_text};
+ghost use Rattle.enumset_source.specs.Sources.{written, has_text, is_number};
 
 mod scan;
 
@@ -92,9 +92,13 @@ impl<'a> Token<'a> {
     }
 
     /// Whether the token is a numeric literal.
-    pub fn is_number(&self) -> bool {
-        let is_digit = |character: char| character.is_ascii_digit();
-        matches!(self.kind, Kind::Literal) && self.text.starts_with(is_digit)
+    pub fn is_number(&self) -> bool
+        ensures { result ≡ is_number self.now }
+    {
+        match (self.kind, self.text.as_bytes()) {
+            (Kind::Literal, [first, ..]) => first.is_ascii_digit(),
+            _ => false,
+        }
     }
 
     /// The text between the quotes, if the token is a string literal.

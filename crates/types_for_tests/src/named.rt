@@ -293,7 +293,8 @@ impl LaterLetters {
             (names_of ⟦<LaterLetters as EnumSetType>⟧.elements ⟦<LaterLetters as EnumSetNames>⟧.names)
             unknown.Refuse) text.now result }
         ensures plain { IsPlainMap
-            (names_of ⟦<LaterLetters as EnumSetType>⟧.elements ⟦<LaterLetters as EnumSetNames>⟧.names) text.now → IsResult (value_read (set_of_map
+            (names_of ⟦<LaterLetters as EnumSetType>⟧.elements ⟦<LaterLetters as EnumSetNames>⟧.names) text.now →
+            IsResult (value_read (set_of_map
             (names_of ⟦<LaterLetters as EnumSetType>⟧.elements ⟦<LaterLetters as EnumSetNames>⟧.names)
             unknown.Refuse) text.now) result }
     {

@@ -84,18 +84,22 @@ impl<'a, 'b> Attribute<'a, 'b> {
         pairs.any(|[word, next]| word.is(name) && next.is_punct("([{"))
     }
 
-    /// The depth and the tokens of its arguments, with the bracket that closes them. It is a fault if anything follows.
-    fn arguments(&self) -> Result<(u32, &[Token<'a>]), Fault> {
+    /// Its arguments, with the bracket that closes them, their depth, and the fault of what follows them. Without
+    /// brackets the words after the name are the arguments.
+    fn arguments(&self) -> (&[Token<'a>], u32, Option<Fault>) {
         match self.words.as_slice() {
             [open, rest @ ..] if open.is_punct("([{") => {
                 let (inside, after) = split(rest, bracket_length(0, open, rest));
-                match after {
-                    [next, ..] if !next.is("]") => Err(Fault::unexpected(next, "`]`")),
-                    _ => Ok((open.depth, inside)),
-                }
+                (inside, open.depth, fault_before_end(after, "`]`"))
             }
-            [next, ..] if !next.is("]") => Err(Fault::unexpected(next, "`(`")),
-            _ => Ok((0, &[])),
+            [next, ..] if next.is_ident() => {
+                (
+                    &self.words,
+                    next.depth,
+                    fault_before_end(&self.words, "`(`"),
+                )
+            }
+            words => (&[], 0, fault_before_end(words, "`(`")),
         }
     }
 }
@@ -109,17 +113,22 @@ pub fn arguments_of<'s, 'a>(
     let mut arguments = Vec::new(report.alloc);
     for attribute in attributes {
         if attribute.is(name) {
-            match attribute.arguments() {
-                Ok((depth, inside)) => {
-                    let is_comma = |word: &Token| word.is(",") && word.depth == depth;
-                    let split = inside.split_inclusive(is_comma);
-                    arguments.extend(split.filter(is_there))?;
-                }
-                Err(fault) => report.fault(fault)?,
-            }
+            let (inside, depth, fault) = attribute.arguments();
+            let is_comma = |word: &Token| word.is(",") && word.depth == depth;
+            let split = inside.split_inclusive(is_comma);
+            arguments.extend(split.filter(is_there))?;
+            report.faults.extend(fault)?;
         }
     }
     Ok(arguments)
+}
+
+/// The fault that something stands before the `]` of an attribute, where this is expected.
+fn fault_before_end(words: &[Token], expected: &'static str) -> Option<Fault> {
+    match words {
+        [next, ..] if !next.is("]") => Some(Fault::unexpected(next, expected)),
+        _ => None,
+    }
 }
 
 /// Whether an argument is more than the bracket that closes the others.

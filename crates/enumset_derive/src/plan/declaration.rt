@@ -16,7 +16,7 @@ pub struct EnumDeclaration<'a, 'b> {
     pub variants: Vec<Variant<'a, 'b>>,
     /// The comments after the last variant.
     pub last_comments: Vec<Line<'a, 'b>>,
-    /// The names of the variants in JSON, in their order. Empty if each is the variant's own name.
+    /// The names of the variants in JSON, in their order.
     pub json_names: Vec<String>,
 }
 
@@ -57,8 +57,16 @@ pub struct Derive<'a> {
     pub place: Place,
 }
 
-/// A name in JSON, and its place.
-pub type Rename<'a> = (&'a str, Place);
+/// What a variant is named in JSON.
+#[derive(Clone, Copy)]
+pub enum Rename<'a> {
+    /// Its own name, in the style of the enum.
+    Own,
+    /// This name, which is given at this place.
+    Given(&'a str, Place),
+    /// It could not be read, as a fault says.
+    Unread,
+}
 
 /// A variant without fields.
 #[derive(Drop)]
@@ -70,8 +78,7 @@ pub struct Variant<'a, 'b> {
     /// Whether an empty line is before it.
     pub is_apart: bool,
     pub name: &'a str,
-    /// The name in JSON that it is given.
-    pub rename: Option<Rename<'a>>,
+    pub rename: Rename<'a>,
     pub discriminant: Discriminant<'a>,
     /// The comments between its tokens, and those after it on its line.
     pub comments: Vec<&'a str>,
@@ -85,6 +92,14 @@ impl Variant<'_, '_> {
         match self.discriminant {
             Discriminant::Given(given) => given.place,
             Discriminant::Implied | Discriminant::Unread => self.place,
+        }
+    }
+
+    /// Where its name in JSON is given, or its own name.
+    pub fn json_place(&self) -> Place {
+        match self.rename {
+            Rename::Given(_, place) => place,
+            Rename::Own | Rename::Unread => self.place,
         }
     }
 }
@@ -128,14 +143,55 @@ pub struct Options<'a> {
     pub has_display: bool,
     /// `parse`: whether a `FromStr` that reads the variant's name is written.
     pub is_parsed: bool,
-    /// `crate_name`: the name of the crate `enumset` in the code of the module. With the place of its value.
-    pub crate_name: Option<(&'a str, Place)>,
+    /// `crate_name`: the library that the module is over, by default `enumset`. With the place of its value.
+    pub library: Option<(Library<'a>, Place)>,
+}
+
+/// The library that a module has element types and sets from.
+#[derive(Clone, Copy)]
+pub enum Library<'a> {
+    /// `enumset`, by this name in code.
+    Whole(&'a str),
+    /// `enumset_sets`, which has no macros, no lists of names and no sets in JSON.
+    SetsAlone,
+}
+
+impl<'a> Library<'a> {
+    /// The library with this name in code.
+    pub fn named(name: &'a str) -> Library<'a> {
+        match name {
+            "enumset_sets" => Library::SetsAlone,
+            name => Library::Whole(name),
+        }
+    }
+
+    /// Its name in code.
+    pub fn name(self) -> &'a str {
+        match self {
+            Library::Whole(name) => name,
+            Library::SetsAlone => "enumset_sets",
+        }
+    }
+
+    /// Its name in clauses.
+    pub fn cited(self) -> &'static str {
+        match self {
+            Library::Whole(_) => "enumset",
+            Library::SetsAlone => "enumset_sets",
+        }
+    }
+
+    /// Whether it is `enumset_sets`.
+    pub fn is_sets_alone(self) -> bool {
+        matches!(self, Library::SetsAlone)
+    }
 }
 
 impl<'a> Options<'a> {
-    /// The name by which the module cites the crate `enumset`.
-    pub fn facade(&self) -> &'a str {
-        self.crate_name.map_or("enumset", |(name, _)| name)
+    /// The library that the module is over.
+    pub fn library(&self) -> Library<'a> {
+        self.library
+            .map_or(Library::Whole("enumset"), |(library, _)| library)
     }
 
     /// Whether sets in JSON consist of the names of their elements.

@@ -2,13 +2,14 @@
 
 ghost use Rattle.std.specs.Prelude.{◌≡◌, ◌<◌, ◌≤◌, false, [], IsTrue, IfOk, IfSome, None};
 ghost use Rattle.std.specs.List.{find};
+ghost use Rattle.std.specs.Option.{option_map};
 ghost use Rattle.enumset_repr.specs.BitSet.{is_in};
 ghost use Rattle.enumset_repr.specs.Number.{is_distinct};
 ghost use Rattle.enumset_repr.specs.Lawful.{one_past_all};
 ghost use Rattle.enumset_source.specs.declared.number.Number.TheVariants.{Natural};
 ghost use Rattle.enumset_derive.specs.declared.plan.variants.Implied.TheVariants as implied;
 ghost use Rattle.enumset_derive.specs.Numbers.{bit_of, bit_limit, json_limit};
-ghost use Rattle.enumset_derive.specs.Variants.{has_taken, taken_fault, map_of, repr_fault, json_fault, without_bit, variant_plan};
+ghost use Rattle.enumset_derive.specs.Variants.{has_taken, taken_fault, map_of, repr_fault, json_fault, without_bit, with_bit, variant_plan, fault_at};
 ghost use Rattle.enumset_derive.specs.Variants.{discriminant_of, discriminant_after, name_fault, named_after, bits_of, with_some};
 
 use crate::fault::{Fault, Reason};
@@ -142,7 +143,6 @@ fn name_fault(earlier: &[Variant], variant: &Variant) -> Option<Fault>
 }
 
 /// The variant at this place with its bit, and its faults. `named` are the variants before it that have a bit of their own.
-#[tactic(auto, using(crate::proofs::Named::not_taken))]
 fn plan_variant(
     options: &Options,
     place: usize,
@@ -167,23 +167,45 @@ fn plan_variant(
     };
     let at = variant.number_place();
     let width = bit_limit(options.representation);
-    let bit = match bit_of(map_of(options), width, place as u32, number) {
-        Ok(bit) => bit,
-        Err(reason) => return VariantPlan::without_bit(Some(reason.at(at))),
+    match bit_of(map_of(options), width, place as u32, number) {
+        Ok(bit) => with_bit(options, at, number, bit, named),
+        Err(reason) => VariantPlan::without_bit(Some(reason.at(at))),
+    }
+}
+
+/// A variant with this bit, and its faults, where `named` are the variants before it that have a bit of their own.
+#[tactic(auto, using(crate::proofs::Named::not_taken))]
+fn with_bit(
+    options: &Options,
+    place: Place,
+    number: Number,
+    bit: u32,
+    named: &[NamedVariant],
+) -> VariantPlan
+    ensures plan { result ≡ with_bit options.now place number bit (find (has_taken bit number) named.now) }
+    ensures new { IfSome result.variant (λ n. is_in n.bit (bits_of named.now) ≡ false) }
+    ensures range { result.repr_fault ≡ None →
+        IfSome result.variant (λ n. n.bit < bit_limit options.now.representation) }
+{
+    let (variant, bit_fault) = match taken_by(named, bit, number) {
+        Some(first) => (None, Some(taken_fault(bit, first).at(place))),
+        None => (Some(NamedVariant { bit, number, place }), None),
     };
-    let taken = taken_by(named, bit, number);
     VariantPlan {
-        variant: match taken {
-            Some(_) => None,
-            None => Some(NamedVariant {
-                bit,
-                number,
-                place: at,
-            }),
-        },
-        bit_fault: taken.map(|first| taken_fault(bit, first).at(at)),
-        repr_fault: repr_fault(options, bit).map(|reason| reason.at(at)),
-        json_fault: json_fault(options, bit).map(|reason| reason.at(at)),
+        variant,
+        bit_fault,
+        repr_fault: fault_of(repr_fault(options, bit), place),
+        json_fault: fault_of(json_fault(options, bit), place),
+    }
+}
+
+/// The fault for a reason at a place, if there is one.
+fn fault_of(reason: Option<Reason>, place: Place) -> Option<Fault>
+    ensures { result ≡ option_map (fault_at place) reason }
+{
+    match reason {
+        Some(reason) => Some(reason.at(place)),
+        None => None,
     }
 }
 

@@ -1,8 +1,9 @@
 //! Reads discriminants.
 
-ghost use Rattle.std.specs.Prelude.{◌≡◌, ◌∷◌, [], true, IfOk};
+ghost use Rattle.std.specs.Prelude.{◌≡◌, ◌∷◌, [], true, false, IfOk, IsTrue};
 ghost use Rattle.enumset_source.specs.Literals.{before_type, number_written};
 ghost use Rattle.enumset_source.specs.Numbers.{signed_number};
+ghost use Rattle.enumset_source.specs.Sources.{is_number};
 ghost use Rattle.enumset_source.specs.declared.tokens.Token.{Token};
 
 use crate::fault::Fault;
@@ -21,6 +22,8 @@ pub(super) fn read_discriminant<'a>(
     end: &Token<'a>,
     has_masks: bool,
 ) -> Result<Given<'a>, Fault>
+    ensures plain { IfOk result (λ given. (literal : Token) → tokens.now ≡ literal ∷ [] → IsTrue (is_number literal)
+        → given.number ≡ signed_number false (number_written (before_type literal.text.now))) }
     ensures sign { IfOk result (λ given. (minus literal : Token) → tokens.now ≡ minus ∷ literal ∷ []
         → given.number ≡ signed_number true (number_written (before_type literal.text.now))) }
 {

@@ -4,12 +4,12 @@ use super::attributes::{Setting, comments_in, kept_lines};
 use super::derives::{read_derives, test_derives};
 use super::json_names::{json_names, read_style};
 use super::options::read_options;
-use super::variants::{read_body, test_name};
+use super::variants::{Body, read_body, test_name};
 use crate::fault::{Fault, Reading, Reason};
-use crate::items::Item;
-use crate::plan::{EnumDeclaration, EnumHead};
+use crate::items::{Attribute, Item};
+use crate::plan::{EnumDeclaration, EnumHead, Line};
 use crate::report::Report;
-use enumset_source::{Kind, Place, Token};
+use enumset_source::{Kind, Place, Style, Token};
 
 const NO_ENUM_NAME: &str =
     "contracts import the variants of an enum under the name `TheVariants`: choose another name";
@@ -33,22 +33,27 @@ pub(super) fn read_enum<'a, 'b>(
     test_derives(report, attributes, &options)?;
     let style = match options.are_named() {
         true => read_style(report, attributes)?,
-        false => None,
+        false => Some(Style::Pascal),
     };
     let setting = Setting {
         derives: &derives,
         are_named: options.are_named(),
         is_variant: false,
     };
-    let (head, body) = match read_head(report, item, setting)? {
-        Some(head) => head,
-        None => return Ok(None),
+    let (lines, later_lines) = lines_of(report, attributes, setting)?;
+    let parts = match parts_of(item) {
+        Ok(parts) => parts,
+        Err(fault) => return report.fault(fault).map(|()| None),
     };
+    let head = read_head(report, item, &parts, lines, later_lines)?;
     let setting = Setting {
         is_variant: true,
         ..setting
     };
-    let (variants, last_comments) = read_body(report, body, &options, setting)?;
+    let Body {
+        variants,
+        last_comments,
+    } = read_body(report, parts.body, &options, setting)?;
     if variants.is_empty() {
         report.remark(head.name.place, NO_VARIANTS)?;
     }
@@ -63,50 +68,59 @@ pub(super) fn read_enum<'a, 'b>(
     }))
 }
 
-/// What is before the variants of an enum, and the tokens after its `{`.
-type Head<'a, 'b> = (EnumHead<'a, 'b>, &'b [Token<'a>]);
-
-/// Reads what is before the variants, or returns `None` after a fault of its form.
-fn read_head<'a, 'b>(
+/// The comments and the attributes that are kept: those before the first derive, and those after it.
+fn lines_of<'a, 'b>(
     report: &mut Report,
-    item: &Item<'a, 'b>,
+    attributes: &[Attribute<'a, 'b>],
     setting: Setting<'_, 'a>,
-) -> Reading<Option<Head<'a, 'b>>> {
-    let attributes = item.attributes.as_slice();
+) -> Reading<(Vec<Line<'a, 'b>>, Vec<Line<'a, 'b>>)> {
     let first = attributes
         .iter()
         .position(|attribute| attribute.is("derive"));
     let (earlier, later) = attributes.split_at(first.unwrap_or(0));
     let lines = kept_lines(report, earlier, setting)?;
-    let mut later_lines = kept_lines(report, later, setting)?;
-    let (name, before, body) = match names_in(item) {
-        Ok(parts) => parts,
-        Err(fault) => return report.fault(fault).map(|()| None),
-    };
-    later_lines.append(&mut comments_in(report.alloc, before)?)?;
-    if name.is("TheVariants") {
-        report.fault(Fault::at(name, NO_ENUM_NAME))?;
+    Ok((lines, kept_lines(report, later, setting)?))
+}
+
+/// Reads what is before the variants. Its lines before and after the first derive are given.
+fn read_head<'a, 'b>(
+    report: &mut Report,
+    item: &Item<'a, 'b>,
+    parts: &Parts<'a, 'b>,
+    lines: Vec<Line<'a, 'b>>,
+    mut later_lines: Vec<Line<'a, 'b>>,
+) -> Reading<EnumHead<'a, 'b>> {
+    later_lines.append(&mut comments_in(report.alloc, parts.before)?)?;
+    if parts.name.is("TheVariants") {
+        report.fault(Fault::at(parts.name, NO_ENUM_NAME))?;
     }
-    test_name(report, name)?;
-    if let Some(next) = before.iter().find(|token| has_parameters(*token)) {
+    test_name(report, parts.name)?;
+    if let Some(next) = parts.before.iter().find(|token| has_parameters(*token)) {
         report.fault(Fault::at(next, "the enum must not have generic parameters"))?;
     }
     let (visibility, _) = item.visibility();
-    let head = EnumHead {
+    let mut attributes = item.attributes.iter();
+    Ok(EnumHead {
         lines,
         later_lines,
-        is_for_tests: attributes.iter().any(|attribute| attribute.is("cfg")),
+        is_for_tests: attributes.any(|attribute| attribute.is("cfg")),
         visibility,
-        name: *name,
-    };
-    Ok(Some((head, body)))
+        name: *parts.name,
+    })
 }
 
-/// The name of an enum, the tokens up to its `{`, and the tokens after that.
-type Names<'a, 'b> = (&'b Token<'a>, &'b [Token<'a>], &'b [Token<'a>]);
+/// The parts of an enum after its attributes.
+#[derive(Clone, Copy)]
+struct Parts<'a, 'b> {
+    name: &'b Token<'a>,
+    /// The tokens up to its `{`.
+    before: &'b [Token<'a>],
+    /// The tokens after that.
+    body: &'b [Token<'a>],
+}
 
-/// Reads the name of an enum, and finds its `{`.
-fn names_in<'a, 'b>(item: &Item<'a, 'b>) -> Result<Names<'a, 'b>, Fault> {
+/// Finds the name of an enum and its `{`.
+fn parts_of<'a, 'b>(item: &Item<'a, 'b>) -> Result<Parts<'a, 'b>, Fault> {
     let (_, words) = item.visibility();
     let (keyword, rest) = next_word(item, words, "an enum")?;
     if OTHER_ITEMS.contains(&keyword.text) {
@@ -126,7 +140,11 @@ fn names_in<'a, 'b>(item: &Item<'a, 'b>) -> Result<Names<'a, 'b>, Fault> {
     };
     let body = rest.get(open.saturating_add(1)..).unwrap_or(&[]);
     let length = item.tokens.len().saturating_sub(body.len());
-    Ok((name, item.tokens.get(..length).unwrap_or(&[]), body))
+    Ok(Parts {
+        name,
+        before: item.tokens.get(..length).unwrap_or(&[]),
+        body,
+    })
 }
 
 /// Whether the parameters of an enum, or what they must satisfy, begin with this token.

@@ -2,7 +2,7 @@
 
 use crate::fault::{Fault, Reading, Reason};
 use crate::items::{Attribute, arguments_of};
-use crate::plan::Options;
+use crate::plan::{Library, Options};
 use crate::report::Report;
 use enumset_source::{Map, Place, Token, map_of, representation_of, serialized_of};
 
@@ -30,7 +30,7 @@ const OTHER_LIBRARY: &str =
 
 const OTHER_NAMES: &str = "`parse` needs `enumset`: remove this `crate_name`, or `parse`";
 
-/// The options in these attributes. If `map` or `repr` cannot be read, so that no bit is known, `map` is `Compact`.
+/// The options in these attributes.
 pub(super) fn read_options<'a>(
     report: &mut Report,
     attributes: &[Attribute<'a, '_>],
@@ -52,11 +52,20 @@ pub(super) fn read_options<'a>(
         given.extend(name)?;
     }
     test_json(report, &options, &given)?;
-    if let Some(place) = unread {
-        options.map = Some((Map::Compact, place));
-        options.representation = None;
+    match unread {
+        Some(place) => Ok(without_bits(options, place)),
+        None => Ok(options),
     }
-    Ok(options)
+}
+
+/// The options of an enum whose `map` or `repr`, at this place, cannot be read. No bit of it is known, so what is tested
+/// is only what holds under any `map`: each variant has its place for a bit.
+fn without_bits(options: Options<'_>, place: Place) -> Options<'_> {
+    Options {
+        map: Some((Map::Compact, place)),
+        representation: None,
+        ..options
+    }
 }
 
 /// Reports a crate without sets in JSON and lists of names, and notes an option that has no effect. `given` are the names
@@ -68,11 +77,11 @@ fn test_json(report: &mut Report, options: &Options, given: &[Token]) -> Reading
             report.remark(name.place, DENY_ALONE)?;
         }
     }
-    match options.crate_name {
-        Some(("enumset_sets", place)) if options.serialized.is_some() => {
+    match options.library {
+        Some((Library::SetsAlone, place)) if options.serialized.is_some() => {
             report.fault(Reason::Text(OTHER_LIBRARY).at(place))
         }
-        Some(("enumset_sets", place)) if options.is_parsed => {
+        Some((Library::SetsAlone, place)) if options.is_parsed => {
             report.fault(Reason::Text(OTHER_NAMES).at(place))
         }
         _ => Ok(()),
@@ -127,7 +136,9 @@ fn with_value<'a>(
             options.serialized = Some(serialized_of(text).ok_or(Fault::at(&value, WRONG_FORM))?);
         }
         "crate_name" => match value_of(name, value)? {
-            (value, text) if is_identifier(text) => options.crate_name = Some((text, value.place)),
+            (value, text) if is_identifier(text) => {
+                options.library = Some((Library::named(text), value.place));
+            }
             (value, _) => return Err(Fault::at(&value, WRONG_CRATE)),
         },
         "serialize_deny_unknown" => options.denies_unknown = boolean_of(value)?,

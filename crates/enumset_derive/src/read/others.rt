@@ -8,7 +8,7 @@ use super::derives::is_element_type;
 use crate::fault::Reading;
 use crate::items::Item;
 use crate::report::{Note, Report};
-use enumset_source::Token;
+use enumset_source::{Kind, Token};
 use std::alloc::{AllocError, Global};
 
 /// The items that are left out: all but element types, imports and empty items.
@@ -53,11 +53,16 @@ pub(super) fn note_left_out(report: &mut Report, item: &Item) -> Reading {
 /// What an item is, by its keyword.
 fn what_of(item: &Item) -> &'static str {
     let (_, words) = item.visibility();
-    let keyword = match words {
-        [_, not, ..] if not.is("!") => return "a macro",
-        [_, keyword, ..] if matches!(keyword.text, "fn" | "impl" | "trait") => keyword,
-        [keyword, ..] => keyword,
-        [] => return "other code",
+    let is_qualifier = |word: &&Token| {
+        let is_abi = matches!(word.kind, Kind::Literal);
+        is_abi || matches!(word.text, "async" | "const" | "extern" | "unsafe")
+    };
+    let qualifiers = words.iter().take_while(is_qualifier).count();
+    let keyword = match (words, words.get(qualifiers)) {
+        ([_, not, ..], _) if not.is("!") => return "a macro",
+        (_, Some(word)) if matches!(word.text, "fn" | "impl" | "trait" | "mod") => word,
+        ([first, ..], _) => first,
+        _ => return "other code",
     };
     match keyword.text {
         "mod" => "a module",
@@ -65,6 +70,8 @@ fn what_of(item: &Item) -> &'static str {
         "fn" => "a function",
         "const" | "static" => "a constant",
         "struct" => "a struct",
+        "union" => "a union",
+        "extern" => "an `extern` block",
         "enum" => "an enum",
         "trait" => "a trait",
         "type" => "a type",

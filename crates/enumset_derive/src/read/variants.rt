@@ -5,16 +5,23 @@ use super::discriminants::read_discriminant;
 use super::json_names::read_rename;
 use crate::fault::{Fault, Reading};
 use crate::items::{Attribute, bracket_length, skip};
-use crate::plan::{Discriminant, Line, Options, Variant};
+use crate::plan::{Discriminant, Line, Options, Rename, Variant};
 use crate::report::Report;
 use enumset_source::{Kind, Map, Token};
 
 const RAW: &str = "raw identifiers are not supported: choose a name that is not a keyword";
 
+const FIELDS: &str = "a variant must not have fields";
+
 const NOT_ASCII: &str = "names must be ASCII";
 
-/// The variants of an enum, and the comments after the last one.
-pub(super) type Body<'a, 'b> = (Vec<Variant<'a, 'b>>, Vec<Line<'a, 'b>>);
+/// What is between the braces of an enum.
+#[derive(Drop)]
+pub(super) struct Body<'a, 'b> {
+    pub variants: Vec<Variant<'a, 'b>>,
+    /// The comments after the last variant.
+    pub last_comments: Vec<Line<'a, 'b>>,
+}
 
 /// Reads the variants of an enum. `body` has the tokens after its `{`, up to the `}`.
 pub(super) fn read_body<'a, 'b>(
@@ -56,7 +63,10 @@ pub(super) fn read_body<'a, 'b>(
             variants.push(variant)?;
         }
     }
-    Ok((variants, last_comments))
+    Ok(Body {
+        variants,
+        last_comments,
+    })
 }
 
 /// The number of tokens in the variant at the beginning, with the comments after it on its line. For the last variant
@@ -90,12 +100,25 @@ fn read_variant<'a, 'b>(
         return Ok(None);
     }
     test_name(report, name)?;
+    let mut inner = tokens
+        .iter()
+        .filter(|token| matches!(token.kind, Kind::InnerDoc));
+    if let Some(comment) = inner.next() {
+        report.fault(Fault::unexpected(comment, "a variant"))?;
+    }
+    let after = match rest {
+        [open, inside @ ..] if open.is_punct("({") => {
+            report.fault(Fault::at(open, FIELDS))?;
+            skip(rest, bracket_length(1, open, inside))
+        }
+        _ => rest,
+    };
     let has_masks = matches!(options.map, Some((Map::Mask, _)));
-    let discriminant = match discriminant_in(name, rest, has_masks) {
+    let discriminant = match discriminant_in(name, after, has_masks) {
         Ok(discriminant) => discriminant,
         Err(fault) => {
             report.fault(fault)?;
-            discriminant_after_fields(rest)
+            Discriminant::Unread
         }
     };
     Ok(Some(Variant {
@@ -103,13 +126,13 @@ fn read_variant<'a, 'b>(
         lines: Vec::new(alloc),
         is_apart: false,
         name: name.text,
-        rename: None,
+        rename: Rename::Own,
         discriminant,
         comments: comments.map(|comment| comment.text).collect(alloc)?,
     }))
 }
 
-/// Reads a discriminant from the tokens after the name of a variant.
+/// Reads a discriminant from the tokens after the name of a variant, or after its fields.
 fn discriminant_in<'a>(
     name: &Token<'a>,
     rest: &[Token<'a>],
@@ -120,20 +143,8 @@ fn discriminant_in<'a>(
         [equal, value @ .., end] if equal.is("=") => {
             read_discriminant(value, end, has_masks).map(Discriminant::Given)
         }
-        [next, ..] if next.is_punct("({") => Err(Fault::at(next, "a variant must not have fields")),
         [next, ..] => Err(Fault::unexpected(next, "`,` or `}`")),
         [] => Err(Fault::unexpected(name, "`,` or `}`")),
-    }
-}
-
-/// The discriminant of a variant with a fault: implied if nothing follows its fields.
-fn discriminant_after_fields<'a>(rest: &[Token<'a>]) -> Discriminant<'a> {
-    match rest {
-        [open, inside @ ..]
-            if open.is_punct("({") && bracket_length(2, open, inside) == rest.len() => {
-            Discriminant::Implied
-        }
-        _ => Discriminant::Unread,
     }
 }
 

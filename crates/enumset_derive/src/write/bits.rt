@@ -1,8 +1,8 @@
 //! Writes the terms of contracts for the bits of variants, and for sets in JSON that consist of names.
 
 use super::layout::list_of;
-use super::names::{json_names_of, unknown_of};
-use super::{Text, Written, facade_of, library_of, write_origin};
+use super::names::unknown_of;
+use super::{Text, Writing, library_of, write_origin};
 use crate::Request;
 use crate::element::Element;
 use crate::plan::Options;
@@ -42,7 +42,7 @@ struct Terms {
 
 impl Terms {
     /// The terms of the enum with this name, where `count` is the number of enums.
-    fn of(alloc: Global, name: &str, count: usize) -> Written<Terms> {
+    fn of(alloc: Global, name: &str, count: usize) -> Writing<Terms> {
         let (type_name, type_import) = match IMPORTED.contains(&name) {
             true => (
                 format!(in alloc; "Own{name}")?,
@@ -122,7 +122,7 @@ fn write_own_imports(
     request: &Request,
     element: &Element,
     terms: &Terms,
-) -> Written {
+) -> Writing {
     let (crate_name, module) = (request.crate_name, &request.module);
     let (name, import, type_import) = (
         element.declaration.head.name.text,
@@ -137,7 +137,7 @@ use Rattle.{crate_name}.specs.declared.{module}.{name}.{{{type_import}}}\n"
 }
 
 /// Writes the terms of an enum.
-fn write_terms(out: &mut String, alloc: Global, element: &Element, terms: &Terms) -> Written {
+fn write_terms(out: &mut String, alloc: Global, element: &Element, terms: &Terms) -> Writing {
     let model = terms.elements(alloc, element)?;
     let (suffix, type_name) = (&terms.suffix, &terms.type_name);
     write!(
@@ -148,8 +148,13 @@ fn write_terms(out: &mut String, alloc: Global, element: &Element, terms: &Terms
     let Some(reader) = reader_of(options) else {
         return Ok(());
     };
-    let names = json_names_of(alloc, element)?;
-    let names = list_of(alloc, 100, &names, "codes \"", "\"")?;
+    let names = list_of(
+        alloc,
+        100,
+        &element.declaration.json_names,
+        "codes \"",
+        "\"",
+    )?;
     let unknown = unknown_of(options);
     write!(
         out,
@@ -176,7 +181,7 @@ fn reader_of(options: &Options) -> Option<&'static str> {
 }
 
 /// Writes the imports that do not depend on the names of the enums.
-fn write_imports(out: &mut String, elements: &[Element]) -> Written {
+fn write_imports(out: &mut String, elements: &[Element]) -> Writing {
     let (mut has_lists, mut has_maps, mut are_in_place, mut are_listed) = (
         false, false, false, false,
     );
@@ -201,7 +206,7 @@ fn write_imports(out: &mut String, elements: &[Element]) -> Written {
         (None, true) => ", ◌∷◌, []}\n",
         (None, false) => "}\n",
     })?;
-    let library = library_of(facade_of(elements));
+    let library = library_of(elements).cited();
     let sets = if readers.is_some() { "BitSet, " } else { "" };
     let models = match (are_in_place, are_listed) {
         (true, true) => "in_place, with_bits",

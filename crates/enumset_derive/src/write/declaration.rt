@@ -1,6 +1,6 @@
 //! Writes the enum of an element type.
 
-use super::Written;
+use super::Writing;
 use crate::element::Element;
 use crate::plan::{Discriminant, EnumDeclaration, Given, Line, Variant};
 use enumset_source::{Number, tokens};
@@ -14,7 +14,7 @@ const DROPPED: &str =
 const SUPERTRAITS: [&str; 4] = ["Clone", "Copy", "PartialEq", "Eq"];
 
 /// Writes the enum.
-pub(super) fn write_enum(out: &mut String, alloc: Global, element: &Element) -> Written {
+pub(super) fn write_enum(out: &mut String, alloc: Global, element: &Element) -> Writing {
     let declaration = &element.declaration;
     let head = &declaration.head;
     write_lines(out, &head.lines, "")?;
@@ -41,7 +41,7 @@ pub(super) fn write_enum(out: &mut String, alloc: Global, element: &Element) -> 
 }
 
 /// Writes comments and attributes on their own lines, after this indentation.
-fn write_lines(out: &mut String, lines: &[Line], indent: &str) -> Written {
+fn write_lines(out: &mut String, lines: &[Line], indent: &str) -> Writing {
     for line in lines {
         write!(out, "{indent}{}\n", tokens::Written(*line))?;
     }
@@ -49,7 +49,7 @@ fn write_lines(out: &mut String, lines: &[Line], indent: &str) -> Written {
 }
 
 /// Writes a variant, with its discriminant if the enum has them.
-fn write_variant(out: &mut String, variant: &Variant, has_discriminant: bool) -> Written {
+fn write_variant(out: &mut String, variant: &Variant, has_discriminant: bool) -> Writing {
     write_lines(out, &variant.lines, "    ")?;
     write!(out, "    {}", variant.name)?;
     match variant.discriminant {
@@ -64,7 +64,7 @@ fn write_variant(out: &mut String, variant: &Variant, has_discriminant: bool) ->
 }
 
 /// Writes a discriminant: its literal, or else its number.
-fn write_discriminant(out: &mut String, given: Given) -> Written {
+fn write_discriminant(out: &mut String, given: Given) -> Writing {
     let sign = if matches!(given.number, Number::Negative(_)) {
         "-"
     } else {
@@ -79,7 +79,7 @@ fn write_discriminant(out: &mut String, given: Given) -> Written {
 }
 
 /// Writes the derives: those that an element type needs, and those of the source.
-fn write_derives(out: &mut String, alloc: Global, declaration: &EnumDeclaration) -> Written {
+fn write_derives(out: &mut String, alloc: Global, declaration: &EnumDeclaration) -> Writing {
     let is_full = !declaration.options.leaves_out_supertraits;
     let mut derives: Vec<&str> = Vec::new(alloc);
     if is_full {

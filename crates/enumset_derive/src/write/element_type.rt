@@ -6,7 +6,7 @@ use super::layout::{list_of, list_of_names, write_call, write_head};
 use super::names::{write_display, write_names};
 use super::operators::write_operators;
 use super::parsing::write_from_str;
-use super::{Subject, Text, Written, library_of};
+use super::{Subject, Writing};
 use crate::plan::Store;
 
 /// What a set is stored in, as text of a module.
@@ -20,7 +20,7 @@ struct StoreText {
 }
 
 /// Writes the enum, and the implementations that make it an element type.
-pub(super) fn write_element_type(out: &mut String, subject: &Subject) -> Written {
+pub(super) fn write_element_type(out: &mut String, subject: &Subject) -> Writing {
     let options = &subject.element.declaration.options;
     write_enum(out, subject.alloc, subject.element)?;
     write_impl(out, subject)?;
@@ -48,9 +48,9 @@ pub(super) fn write_element_type(out: &mut String, subject: &Subject) -> Written
 }
 
 /// Writes the implementation of `EnumSetType`.
-fn write_impl(out: &mut String, subject: &Subject) -> Written {
+fn write_impl(out: &mut String, subject: &Subject) -> Writing {
     let (name, crate_name, module) = (subject.name, subject.crate_name, subject.module);
-    let library = library_of(subject.facade);
+    let library = subject.library.cited();
     let is_wide = matches!(subject.element.plan.store, Store::Words(_));
     let law = if is_wide { "words" } else { "integer" };
     let in_place = subject.element.is_in_place();
@@ -84,7 +84,7 @@ fn write_impl(out: &mut String, subject: &Subject) -> Written {
 }
 
 /// Writes the type that a set is stored in, the model of the elements, and the constants.
-fn write_constants(out: &mut String, subject: &Subject, in_place: bool) -> Written {
+fn write_constants(out: &mut String, subject: &Subject, in_place: bool) -> Writing {
     let (width, count) = (
         subject.element.plan.bit_width,
         subject.element.plan.variants.len(),
@@ -112,7 +112,7 @@ fn write_constants(out: &mut String, subject: &Subject, in_place: bool) -> Writt
 }
 
 /// Writes the model of the elements, after its `{`, and under `display` the list of the variants.
-fn write_elements(out: &mut String, subject: &Subject, in_place: bool) -> Written {
+fn write_elements(out: &mut String, subject: &Subject, in_place: bool) -> Writing {
     if in_place {
         out.push_str("in_place the_type };\n\n")?;
     } else {
@@ -129,7 +129,7 @@ fn write_elements(out: &mut String, subject: &Subject, in_place: bool) -> Writte
 }
 
 /// Writes the body of the function that converts a variant to its bit.
-fn write_into_u32(out: &mut String, subject: &Subject) -> Written {
+fn write_into_u32(out: &mut String, subject: &Subject) -> Writing {
     let variants = &subject.element.declaration.variants;
     if variants.is_empty() {
         return out.push_str("        match self {}\n");
@@ -149,13 +149,13 @@ fn write_into_u32(out: &mut String, subject: &Subject) -> Written {
 }
 
 /// Writes the body of the function that converts a bit to its variant: a match over the bits, or a call of the macro
-/// that makes a table. `enumset_sets` does not have this macro, so a module over that crate has the match in full.
-fn write_from_u32(out: &mut String, subject: &Subject) -> Written {
-    let (alloc, facade, name) = (subject.alloc, subject.facade, subject.name);
+/// that makes a table.
+fn write_from_u32(out: &mut String, subject: &Subject) -> Writing {
+    let (alloc, name) = (subject.alloc, subject.name);
     let (variants, plan) = (&subject.element.declaration.variants, &subject.element.plan);
     let count = variants.len();
     let variants = variants.iter().zip(plan.variants.iter());
-    if subject.element.is_in_table() && facade != "enumset_sets" {
+    if subject.element.is_in_table() {
         let mut items = vec![in alloc; format!(in alloc; "val, {name}:")?]?;
         for (variant, named) in variants {
             items.push(format!(in alloc; "{} {}", named.bit, variant.name)?)?;
@@ -170,9 +170,6 @@ fn write_from_u32(out: &mut String, subject: &Subject) -> Written {
             named.bit, variant.name
         )?;
     }
-    if subject.element.is_in_table() {
-        return write_table_end(out, subject);
-    }
     if count <= 32 {
         return out.push_str("            _ => unreachable!(),\n        }\n");
     }
@@ -180,56 +177,16 @@ fn write_from_u32(out: &mut String, subject: &Subject) -> Written {
     write!(
         out,
         "            _ => {{
-                {facade}::variants::is_below(val, {count});
+                {}::variants::is_below(val, {count});
                 unreachable!()
             }}
-        }}\n"
+        }}\n",
+        subject.library.name()
     )
-}
-
-/// Writes the last arm of a match that should compile to a table, as `variant_of!` does. The arm is never reached,
-/// which a proof learns for 64 bits at a time. It returns a variant, so that the match can compile to a load from a
-/// table.
-fn write_table_end(out: &mut String, subject: &Subject) -> Written {
-    let variants = &subject.element.declaration.variants;
-    let count = variants.len();
-    let mut begun = 0;
-    out.push_str("            _ => {\n")?;
-    for later in [64, 128, 192] {
-        if later < count {
-            let (first, rest) = (
-                bits_from(subject, begun, 64)?,
-                bits_from(subject, later, count)?,
-            );
-            let path = "enumset_sets::variants::is_listed_later";
-            write!(out, "                {path}(val, &[{first}], &[{rest}]);\n")?;
-            begun = later;
-        }
-    }
-    let last = bits_from(subject, begun, count)?;
-    let name = variants.first().map_or("", |variant| variant.name);
-    write!(
-        out,
-        "                enumset_sets::variants::is_listed(val, &[{last}]);
-                Self::{name}
-            }}
-        }}\n"
-    )
-}
-
-/// The bits of at most `count` variants after the first `skipped`, as the items of an array in code.
-fn bits_from(subject: &Subject, skipped: usize, count: usize) -> Text {
-    let alloc = subject.alloc;
-    let variants = subject.element.plan.variants.iter().skip(skipped);
-    let bits = variants
-        .take(count)
-        .map(|named| format!(in alloc; "{}, ", named.bit));
-    let bits: String = bits.try_collect(alloc)?;
-    String::from_str(alloc, bits.as_str().trim_end_matches(", "))
 }
 
 /// What a set is stored in, as text of a module.
-fn store_text(subject: &Subject) -> Written<StoreText> {
+fn store_text(subject: &Subject) -> Writing<StoreText> {
     let alloc = subject.alloc;
     let all = match &subject.element.plan.store {
         Store::Words(words) => words,

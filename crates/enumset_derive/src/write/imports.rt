@@ -1,6 +1,6 @@
 //! Writes the imports of a module.
 
-use super::{Text, facade_of};
+use super::{Text, library_of};
 use crate::element::Element;
 use std::alloc::Global;
 use std::collections::BTreeSet;
@@ -16,13 +16,14 @@ pub(super) fn imports_of(alloc: Global, elements: &[Element]) -> Text {
             }
         }
     }
-    let facade = facade_of(elements);
-    if facade == "enumset_sets" && names.remove("internal::ArrayRepr") {
+    let library = library_of(elements);
+    if library.is_sets_alone() && names.remove("internal::ArrayRepr") {
         lines.push_str("use enumset_array::ArrayRepr;\n")?;
     }
     if !names.is_empty() {
         let names: Vec<&str> = names.into_iter().collect(alloc)?;
-        write!(lines, "use {facade}::{{{}}};\n", names.join(alloc, ", ")?)?;
+        let names = names.join(alloc, ", ")?;
+        write!(lines, "use {}::{{{names}}};\n", library.name())?;
     }
     Ok(lines)
 }

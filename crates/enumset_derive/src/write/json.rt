@@ -2,7 +2,7 @@
 
 use super::layout::guard_of;
 use super::names::unknown_of;
-use super::{Subject, Text, Written};
+use super::{Subject, Text, Writing};
 use crate::plan::{Options, Plan, Store};
 use enumset_source::{IntegerType, Representation, Serialized};
 
@@ -167,7 +167,7 @@ fn unknown_doc(options: &Options) -> &'static str {
 
 /// Writes the four functions. They name `Result` and `String` by their paths, since the module may have types with these
 /// names.
-pub(super) fn write_json(out: &mut String, subject: &Subject, serialized: Serialized) -> Written {
+pub(super) fn write_json(out: &mut String, subject: &Subject, serialized: Serialized) -> Writing {
     let form = Form::of(serialized, &subject.element.plan);
     let (own, guard) = (subject.name, guard_of(subject));
     let (name, plain, cited, definitions, faults) = (
@@ -197,7 +197,7 @@ pub(super) fn write_json(out: &mut String, subject: &Subject, serialized: Serial
 }
 
 /// Writes `to_json`.
-fn write_to_json(out: &mut String, subject: &Subject, form: Form) -> Written {
+fn write_to_json(out: &mut String, subject: &Subject, form: Form) -> Writing {
     let (name, fault) = (form.name(), form.fault());
     write!(out, "    /// The {}", form.doc())?;
     match form {
@@ -235,7 +235,7 @@ fn write_to_json(out: &mut String, subject: &Subject, form: Form) -> Written {
 }
 
 /// Writes `from_json`.
-fn write_from_json(out: &mut String, subject: &Subject, form: Form) -> Written {
+fn write_from_json(out: &mut String, subject: &Subject, form: Form) -> Writing {
     let options = &subject.element.declaration.options;
     let (name, doc, unknown) = (form.name(), unknown_doc(options), unknown_of(options));
     let (read_by, argument) = (form.read_by(subject)?, form.argument(subject)?);
@@ -257,8 +257,8 @@ fn write_from_json(out: &mut String, subject: &Subject, form: Form) -> Written {
 }
 
 /// Writes `to_json_text`.
-fn write_to_json_text(out: &mut String, subject: &Subject, form: Form) -> Written {
-    let name = form.name();
+fn write_to_json_text(out: &mut String, subject: &Subject, form: Form) -> Writing {
+    let (name, argument) = (form.name(), form.argument(subject)?);
     out.push_str("\n    /// The string of `to_json`'s value, without spaces. ")?;
     out.push_str(match form {
         Form::Number(_) => {
@@ -275,7 +275,18 @@ fn write_to_json_text(out: &mut String, subject: &Subject, form: Form) -> Writte
         set: &EnumSet<Self>,
     ) -> std::result::Result<std::string::String, set_json::JsonFault>",
     )?;
-    let (value, argument) = (form.value(subject)?, form.argument(subject)?);
+    write_text_clauses(out, subject, form)?;
+    write!(
+        out,
+        "\n    {{
+        set_json::to_{name}_text(alloc, set{argument})
+    }}\n\n"
+    )
+}
+
+/// Writes the clauses of `to_json_text`.
+fn write_text_clauses(out: &mut String, subject: &Subject, form: Form) -> Writing {
+    let (name, value) = (form.name(), form.value(subject)?);
     match form {
         Form::Number(_) => out.push_str(
             "\n        ensures text { IfOk result (λ text. string_bytes text ≡ decimal (number set.now)) }",
@@ -296,30 +307,27 @@ fn write_to_json_text(out: &mut String, subject: &Subject, form: Form) -> Writte
             out,
             "\n        ensures too_wide {{ (result ≡ Err TooWide) ↔ (is_subset set.now (below {width}) ≡ false) }}
         ensures fault {{ IfErr result (λ fault. (fault ≡ TooWide) ⊎ (fault ≡ OutOfMemory)) }}"
-        )?,
+        ),
         Form::Words | Form::List | Form::Map => {
-            out.push_str(
-                "\n        ensures fault { IfErr result (λ fault. fault ≡ OutOfMemory) }",
-            )?;
+            out.push_str("\n        ensures fault { IfErr result (λ fault. fault ≡ OutOfMemory) }")
         }
     }
-    write!(
-        out,
-        "\n    {{
-        set_json::to_{name}_text(alloc, set{argument})
-    }}\n\n"
-    )
 }
 
 /// Writes `from_json_text`.
-fn write_from_json_text(out: &mut String, subject: &Subject, form: Form) -> Written {
+fn write_from_json_text(out: &mut String, subject: &Subject, form: Form) -> Writing {
     let options = &subject.element.declaration.options;
     let (name, plain) = (form.name(), form.plain());
     let (doc, unknown) = (unknown_doc(options), unknown_of(options));
     let (read_by, argument) = (form.read_by(subject)?, form.argument(subject)?);
-    let known = match form {
-        Form::Map => format!(in subject.alloc; "\n            {read_by}")?,
-        Form::Number(_) | Form::Words | Form::List => String::new(subject.alloc),
+    // A plain map has known names.
+    let premise = match form {
+        Form::Map => {
+            format!(in subject.alloc; "\n            {read_by} text.now →\n            ")?
+        }
+        Form::Number(_) | Form::Words | Form::List => {
+            String::from_str(subject.alloc, " text.now → ")?
+        }
     };
     write!(
         out,
@@ -333,7 +341,7 @@ fn write_from_json_text(out: &mut String, subject: &Subject, form: Form) -> Writ
         ensures read {{ IsReadOf (set_of_{name}
             {read_by}
             unknown.{unknown}) text.now result }}
-        ensures plain {{ IsPlain{plain}{known} text.now → IsResult (value_read (set_of_{name}
+        ensures plain {{ IsPlain{plain}{premise}IsResult (value_read (set_of_{name}
             {read_by}
             unknown.{unknown}) text.now) result }}
     {{

@@ -1,7 +1,7 @@
 //! Lays out what `rt fmt` leaves as it is: lists in contracts and the arguments of macros. The rest is not laid out
 //! here.
 
-use super::{Subject, Text, Written};
+use super::{Subject, Text, Writing};
 use std::alloc::Global;
 use std::fmt::Display;
 
@@ -53,7 +53,7 @@ pub(super) fn list_of_names(subject: &Subject, first: usize, before: &str, after
 }
 
 /// Writes the body of a function that calls a macro with these items, on one line if they fit.
-pub(super) fn write_call(out: &mut String, alloc: Global, name: &str, items: &[String]) -> Written {
+pub(super) fn write_call(out: &mut String, alloc: Global, name: &str, items: &[String]) -> Writing {
     let line = items.join(alloc, " ")?;
     if line.len() <= 90usize.saturating_sub(name.len()) {
         return write!(out, "        {name}({line})\n");
@@ -63,9 +63,23 @@ pub(super) fn write_call(out: &mut String, alloc: Global, name: &str, items: &[S
 }
 
 /// Writes the head of an implementation of a trait, after an empty line and its own comment or attribute.
-pub(super) fn write_head(out: &mut String, subject: &Subject, above: &str, form: &str) -> Written {
+pub(super) fn write_head(out: &mut String, subject: &Subject, above: &str, form: &str) -> Writing {
+    write_generic_head(out, subject, above, "", form)
+}
+
+/// The same with type parameters.
+pub(super) fn write_generic_head(
+    out: &mut String,
+    subject: &Subject,
+    above: &str,
+    parameters: &str,
+    form: &str,
+) -> Writing {
     let (name, guard) = (subject.name, guard_of(subject));
-    write!(out, "\n\n{above}{guard}impl {form} for {name} {{\n")
+    write!(
+        out,
+        "\n\n{above}{guard}impl{parameters} {form} for {name} {{\n"
+    )
 }
 
 /// The attribute of each implementation of an enum that exists only for tests.

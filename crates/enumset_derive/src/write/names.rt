@@ -1,21 +1,8 @@
 //! Writes the names of variants, for JSON and for `Display`.
 
 use super::layout::{list_of, list_of_names, write_call, write_head};
-use super::{Subject, Written};
-use crate::element::Element;
+use super::{Subject, Writing};
 use crate::plan::Options;
-use std::alloc::Global;
-
-/// The names of an enum's variants in JSON.
-pub(super) fn json_names_of<'a>(alloc: Global, element: &'a Element) -> Written<Vec<&'a str>> {
-    let declaration = &element.declaration;
-    let mut names = Vec::new(alloc);
-    for (index, variant) in declaration.variants.iter().enumerate() {
-        let given = declaration.json_names.get(index);
-        names.push(given.map_or(variant.name, |json| json.as_str()))?;
-    }
-    Ok(names)
-}
 
 /// The variant of `Unknown` that reading JSON takes.
 pub(super) fn unknown_of(options: &Options) -> &'static str {
@@ -26,17 +13,21 @@ pub(super) fn unknown_of(options: &Options) -> &'static str {
 }
 
 /// Writes the implementation of `EnumSetNames`.
-pub(super) fn write_names(out: &mut String, subject: &Subject) -> Written {
+pub(super) fn write_names(out: &mut String, subject: &Subject) -> Writing {
     let (alloc, name, element) = (subject.alloc, subject.name, subject.element);
     let mut items = vec![in alloc; format!(in alloc; "{name}:")?]?;
-    for (index, variant) in element.declaration.variants.iter().enumerate() {
+    let (variants, names) = (
+        &element.declaration.variants,
+        &element.declaration.json_names,
+    );
+    for (variant, json) in variants.iter().zip(names.iter()) {
         let own = variant.name;
-        items.push(match element.declaration.json_names.get(index) {
-            Some(json) => format!(in alloc; "{own} \"{json}\"")?,
-            None => String::from_str(alloc, own)?,
+        items.push(match json.as_str() == own {
+            true => String::from_str(alloc, own)?,
+            false => format!(in alloc; "{own} \"{json}\"")?,
         })?;
     }
-    let names = list_of(alloc, 80, &json_names_of(alloc, element)?, "codes \"", "\"")?;
+    let names = list_of(alloc, 80, names, "codes \"", "\"")?;
     let unfolded = if element.is_in_place() {
         "place"
     } else {
@@ -55,7 +46,7 @@ pub(super) fn write_names(out: &mut String, subject: &Subject) -> Written {
 }
 
 /// Writes the implementation of `Display`.
-pub(super) fn write_display(out: &mut String, subject: &Subject) -> Written {
+pub(super) fn write_display(out: &mut String, subject: &Subject) -> Writing {
     let (name, crate_name, module) = (subject.name, subject.crate_name, subject.module);
     let variants = &subject.element.declaration.variants;
     let list = list_of_names(subject, 90, "codes \"", "\"")?;

@@ -1,7 +1,7 @@
 //! Writes the operators on elements.
 
-use super::layout::{guard_of, write_head};
-use super::{Subject, Written, library_of};
+use super::layout::{write_generic_head, write_head};
+use super::{Subject, Writing};
 
 /// A binary operator.
 #[derive(Clone, Copy)]
@@ -36,7 +36,7 @@ const OPERATORS: [Operator; 4] = [
 ];
 
 /// Writes the five operators.
-pub(super) fn write_operators(out: &mut String, subject: &Subject) -> Written {
+pub(super) fn write_operators(out: &mut String, subject: &Subject) -> Writing {
     for operator in OPERATORS {
         write_operator(out, subject, operator)?;
     }
@@ -53,14 +53,17 @@ fn operand_of(name: &str) -> &'static str {
 
 /// Writes a binary operator. One implementation serves each right operand that becomes a set: an element, a set, an
 /// array of elements, and types of users.
-fn write_operator(out: &mut String, subject: &Subject, operator: Operator) -> Written {
-    let (alloc, name, library) = (subject.alloc, subject.name, library_of(subject.facade));
+fn write_operator(out: &mut String, subject: &Subject, operator: Operator) -> Writing {
+    let (alloc, name, library) = (subject.alloc, subject.name, subject.library.cited());
     let (function, operation) = (operator.function, operator.operation);
-    let (doc, operand) = (operation.replace(alloc, "_", " ")?, operand_of(name));
+    let (words, operand) = (operation.replace(alloc, "_", " ")?, operand_of(name));
+    let doc = format!(in alloc; "/// The {words} of `{{self}}` and the set that `rhs` becomes.\n")?;
+    let bound = format!(in alloc; "<{operand}: std::convert::Into<EnumSet<{name}>>>")?;
+    let form = format!(in alloc; "std::ops::{}<{operand}>", operator.trait_name)?;
+    write_generic_head(out, subject, &doc, &bound, &form)?;
     write!(
         out,
-        "\n\n/// The {doc} of `{{self}}` and the set that `rhs` becomes.\n{}impl<{operand}: std::convert::Into<EnumSet<{name}>>> std::ops::{}<{operand}> for {name} {{
-    ghost use Rattle.std.specs.Prelude.{{◌≡◌}};
+        "    ghost use Rattle.std.specs.Prelude.{{◌≡◌}};
     ghost use Rattle.{library}.specs.Sets as set;\n
     type Output = EnumSet<{name}>;\n
     ghost {function}_gives = {{ λ a b r. (s t : set.BitSet)
@@ -69,15 +72,13 @@ fn write_operator(out: &mut String, subject: &Subject, operator: Operator) -> Wr
     fn {function}(self, rhs: {operand}) -> EnumSet<Self> {{
         EnumSet::only(self).{operation}(rhs.into())
     }}
-}}",
-        guard_of(subject),
-        operator.trait_name,
+}}"
     )
 }
 
 /// Writes `!`.
-fn write_not(out: &mut String, subject: &Subject) -> Written {
-    let (name, library) = (subject.name, library_of(subject.facade));
+fn write_not(out: &mut String, subject: &Subject) -> Writing {
+    let (name, library) = (subject.name, subject.library.cited());
     write_head(
         out,
         subject,

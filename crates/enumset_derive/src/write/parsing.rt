@@ -1,11 +1,11 @@
 //! Writes how a variant is read from its name.
 
 use super::layout::{guard_of, write_head};
-use super::{Subject, Written};
+use super::{Subject, Writing};
 use enumset_source::tokens;
 
 /// Writes the error of `FromStr`, and the implementation of `FromStr`.
-pub(super) fn write_from_str(out: &mut String, subject: &Subject) -> Written {
+pub(super) fn write_from_str(out: &mut String, subject: &Subject) -> Writing {
     write_error(out, subject)?;
     let name = subject.name;
     write_head(
@@ -30,7 +30,7 @@ pub(super) fn write_from_str(out: &mut String, subject: &Subject) -> Written {
 }
 
 /// Writes the error.
-fn write_error(out: &mut String, subject: &Subject) -> Written {
+fn write_error(out: &mut String, subject: &Subject) -> Writing {
     let (name, guard) = (subject.name, guard_of(subject));
     let head = &subject.element.declaration.head;
     write!(
