@@ -1,3 +1,4 @@
 pub mod Mixed
 pub mod Texts
+pub mod Calls
 pub mod Laws

@@ -5,12 +5,14 @@
 //! see a set as the finite set of its bits, each below the width of the representation.
 #![tactic(auto)]
 
+mod chains;
 pub mod conversions;
 mod element_operators;
 mod enum_set_operators;
 mod folds;
 mod hash;
 pub mod mixed_enum_set;
+mod mixed_enum_set_filter;
 pub mod mixed_enum_set_iter;
 pub mod mixed_value;
 mod operators;
@@ -19,5 +21,6 @@ mod text;
 
 pub use conversions::convert_mixed;
 pub use mixed_enum_set::MixedEnumSet;
+pub use mixed_enum_set_filter::MixedEnumSetFilter;
 pub use mixed_enum_set_iter::MixedEnumSetIter;
 pub use mixed_value::MixedValue;

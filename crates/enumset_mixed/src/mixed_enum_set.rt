@@ -7,6 +7,7 @@ ghost use Rattle.std.specs.Option.{option_map};
 ghost use Rattle.enumset_repr.specs.BitSet as set;
 ghost use Rattle.enumset_repr.specs.Ends.{least, greatest};
 ghost use Rattle.enumset_mixed.specs.Mixed.{bit_with_validity, valid_members, unknown_members};
+ghost use Rattle.enumset_sets.specs.Calls.{left};
 ghost use Rattle.enumset_sets.specs.Elements.{valid_bits};
 
 use crate::conversions::convert_mixed;
@@ -388,6 +389,7 @@ impl<T: EnumSetTypeWithRepr> MixedEnumSet<T> {
     /// width of the representation.
     pub fn iter(&self) -> MixedEnumSetIter<T>
         ensures ascending { result.items ≡ set.ascending self.now }
+        ensures members { left result ≡ self.now }
         ensures asks { result.asks ≡ 0 }
         ensures span { result.span ≤ T.Repr.PREFERRED_ARRAY_LEN }
         ensures within { IsTrue (set.is_subset self.now (set.below T.Repr.WIDTH)) }

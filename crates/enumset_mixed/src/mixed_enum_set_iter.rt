@@ -7,6 +7,7 @@ ghost use Rattle.std.specs.Iterator.{YieldsFirstBy, YieldsLastBy, item_count};
 ghost use Rattle.enumset_repr.specs.Asks.{BoundsAsks, IsFresh};
 ghost use Rattle.enumset_repr.specs.BitSet as set;
 ghost use Rattle.enumset_sets.specs.Elements.{valid_bits};
+ghost use Rattle.enumset_sets.specs.Laws.Calls.{FewAscend};
 ghost use Rattle.enumset_mixed.specs.Mixed.{bit_with_validity, with_validity};
 
 use crate::mixed_value::{MixedValue, value_of};
@@ -29,10 +30,13 @@ pub struct MixedEnumSetIter<T: EnumSetType> {
 
 impl<T: EnumSetType> Model for MixedEnumSetIter<T> {
     ghost use Rattle.enumset_repr.specs.Asks.{IterView};
+    ghost use Rattle.enumset_sets.specs.Laws.Calls.{FewAscend};
 
     ghost Value = { IterView };
 
     ghost view = { λ i. record { items = T.Repr.rest i.iter; asks = T.Repr.asks i.iter; span = T.Repr.span i.iter } };
+
+    ghost invariant = { λ i. FewAscend (T.Repr.rest i.iter) };
 }
 
 impl<T: EnumSetType> Drop for MixedEnumSetIter<T> {
@@ -46,7 +50,19 @@ impl<T: EnumSetType> MixedEnumSetIter<T> {
     pub(crate) fn over(repr: T::Repr) -> MixedEnumSetIter<T>
         ensures { IsFresh (set.ascending (T.Repr.members repr)) T.Repr.PREFERRED_ARRAY_LEN result }
     {
+        // Tells the proof that each member is below the width, which is a `u32`.
+        repr.learn_is_value();
+        let _width = T::Repr::WIDTH;
         MixedEnumSetIter { iter: repr.iter() }
+    }
+
+    /// Tells the proof that the bits left ascend, and that they are fewer than 2^32. The call does nothing at run time.
+    #[inline]
+    pub(crate) fn learn_left(&self)
+        ensures { FewAscend self.now.items }
+    {
+        // The proof learns the invariant of the type from a read.
+        let _iter = &self.iter;
     }
 }
 

@@ -1,8 +1,10 @@
 -- Laws of the definitions, each proved. They are in specs/ so that the laws of an element type and users' proofs can
 -- cite them.
+--     Calls      what the calls of a closure say of the bits that an iterator had left
 --     Conversions      sets cut at a width, and sets taken through words
 --     Counts      how many valid bits are left
 --     Elements      the laws of an enum without fields, from one test of its bits and constants
+--     Filters      what an iterator with a filter yields
 --     FixedPoints      unions over the members of a set, monotone steps, and what loops reach by steps
 --     FixedPointsOfMany      the same for several sets at once, one in each place of a list
 --     Flows      what is in the least closed sets, also where sets flow from place to place
@@ -25,4 +27,6 @@ pub mod Flows
 pub mod Folds
 pub mod ManySets
 pub mod Iterators
+pub mod Calls
+pub mod Filters
 pub mod Texts

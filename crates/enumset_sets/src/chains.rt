@@ -9,7 +9,7 @@ ghost use Rattle.std.specs.Iterator.{HoldsAlong, DrainsIf, CallableWhile, Callab
 ghost use Rattle.std.specs.Iterator.Runs.{CallKeepsClosure};
 ghost use Rattle.enumset_repr.specs.BitSet as set;
 ghost use Rattle.enumset_repr.specs.Ends.{greatest};
-ghost use Rattle.enumset_sets.specs.Calls.{AllCalls, AnyCalls, EachGives, FilterRuns, FindCalls, left, OneGives, PositionCalls, RfindCalls};
+ghost use Rattle.enumset_sets.specs.Calls.{AllCalls, AnyCalls, EachGives, FilterRuns, FindCalls, left, OneGives, PositionCalls, steps, steps_back};
 
 use crate::element::EnumSetType;
 use crate::enum_set_filter::EnumSetFilter;
@@ -25,7 +25,7 @@ impl<T: EnumSetType> EnumSetIter<T> {
     /// for which it returns false.
     pub fn all<F: FnMut(T) -> bool>(&mut self, f: F) -> bool
         requires { CallableWhile ⟦<EnumSetIter<T> as Iterator>⟧.next_gives F.FnMut true self.old f }
-        ensures calls { AllCalls T.elements.bit F.FnMut self.old f result self.new }
+        ensures calls { AllCalls (steps T.elements.bit) F.FnMut self.old f result self.new }
         ensures elements { CallKeepsClosure F.FnMut f → MatchBool result
             (EachGives T.elements.bit (λ t b. Called F.FnMut f (t, tt) b f) (left self.old) true)
             (OneGives T.elements.bit (λ t b. Called F.FnMut f (t, tt) b f) (left self.old) false) }
@@ -37,7 +37,7 @@ impl<T: EnumSetType> EnumSetIter<T> {
     /// which it returns true.
     pub fn any<F: FnMut(T) -> bool>(&mut self, f: F) -> bool
         requires { CallableWhile ⟦<EnumSetIter<T> as Iterator>⟧.next_gives F.FnMut false self.old f }
-        ensures calls { AnyCalls T.elements.bit F.FnMut self.old f result self.new }
+        ensures calls { AnyCalls (steps T.elements.bit) F.FnMut self.old f result self.new }
         ensures elements { CallKeepsClosure F.FnMut f → MatchBool result
             (OneGives T.elements.bit (λ t b. Called F.FnMut f (t, tt) b f) (left self.old) true)
             (EachGives T.elements.bit (λ t b. Called F.FnMut f (t, tt) b f) (left self.old) false) }
@@ -49,7 +49,7 @@ impl<T: EnumSetType> EnumSetIter<T> {
     /// `predicate` from the front, up to this element, which has the least bit of those that pass.
     pub fn find<P: FnMut(&T) -> bool>(&mut self, predicate: P) -> Option<T>
         requires { CallableWhileAt ⟦<EnumSetIter<T> as Iterator>⟧.next_gives P.FnMut false self.old predicate }
-        ensures calls { FindCalls T.elements.bit P.FnMut self.old predicate result self.new }
+        ensures calls { FindCalls (steps T.elements.bit) P.FnMut self.old predicate result self.new }
         ensures element { CallKeepsClosure P.FnMut predicate → MatchOption result
             (EachGives T.elements.bit (λ t b. CalledAt P.FnMut predicate t b predicate) (left self.old) false)
             (λ t. (set.contains (left self.old) (T.elements.bit t) ≡ true)
@@ -65,7 +65,7 @@ impl<T: EnumSetType> EnumSetIter<T> {
     /// `predicate` from the back, down to this element, which has the greatest bit of those that pass.
     pub fn rfind<P: FnMut(&T) -> bool>(&mut self, predicate: P) -> Option<T>
         requires { CallableWhileAt ⟦<EnumSetIter<T> as DoubleEndedIterator>⟧.next_back_gives P.FnMut false self.old predicate }
-        ensures calls { RfindCalls T.elements.bit P.FnMut self.old predicate result self.new }
+        ensures calls { FindCalls (steps_back T.elements.bit) P.FnMut self.old predicate result self.new }
         ensures element { CallKeepsClosure P.FnMut predicate → MatchOption result
             (EachGives T.elements.bit (λ t b. CalledAt P.FnMut predicate t b predicate) (left self.old) false)
             (λ t. (set.contains (left self.old) (T.elements.bit t) ≡ true)
@@ -81,7 +81,7 @@ impl<T: EnumSetType> EnumSetIter<T> {
     /// is none. It calls `predicate` from the front, up to this element.
     pub fn position<P: FnMut(T) -> bool>(&mut self, predicate: P) -> Option<usize>
         requires { CallableWhile ⟦<EnumSetIter<T> as Iterator>⟧.next_gives P.FnMut false self.old predicate }
-        ensures calls { PositionCalls T.elements.bit P.FnMut self.old predicate result self.new }
+        ensures calls { PositionCalls (steps T.elements.bit) P.FnMut self.old predicate result self.new }
         ensures element { CallKeepsClosure P.FnMut predicate → MatchOption result
             (EachGives T.elements.bit (λ t b. Called P.FnMut predicate (t, tt) b predicate) (left self.old) false)
             (λ i. (t : T) × (set.contains (left self.old) (T.elements.bit t) ≡ true)
@@ -116,7 +116,7 @@ impl<T: EnumSetType> EnumSetIter<T> {
     pub fn filter<P: FnMut(&T) -> bool>(self, predicate: P) -> EnumSetFilter<T, P>
         ensures source { filter_source result ≡ self }
         ensures closure { filter_callee result ≡ predicate }
-        ensures runs { FilterRuns T.elements.bit P.FnMut self predicate result }
+        ensures runs { FilterRuns (steps T.elements.bit) P.FnMut self predicate result }
     {
         EnumSetFilter::of(self, predicate)
     }

@@ -7,7 +7,7 @@ ghost use Rattle.std.specs.Iterator.Adapters.{filter_source, filter_callee, filt
 ghost use Rattle.std.specs.Iterator.Runs.{CallKeepsClosure};
 ghost use Rattle.enumset_repr.specs.BitSet as set;
 ghost use Rattle.enumset_repr.specs.BitSet.{BitSet};
-ghost use Rattle.enumset_sets.specs.Calls.{FilterCollects, FilterCounts, FilterRuns, IsLenOf, left, Selects};
+ghost use Rattle.enumset_sets.specs.Calls.{FilterCollects, FilterCounts, FilterRuns, IsLenOf, left, Selects, steps};
 
 use crate::element::EnumSetType;
 use crate::enum_set_iter::EnumSetIter;
@@ -74,7 +74,7 @@ impl<T: EnumSetType, P: FnMut(&T) -> bool> EnumSetFilter<T, P> {
     pub(crate) fn of(iter: EnumSetIter<T>, predicate: P) -> EnumSetFilter<T, P>
         ensures source { filter_source result ≡ iter }
         ensures closure { filter_callee result ≡ predicate }
-        ensures runs { FilterRuns T.elements.bit P.FnMut iter predicate result }
+        ensures runs { FilterRuns (steps T.elements.bit) P.FnMut iter predicate result }
     {
         iter.learn_left();
         EnumSetFilter {
@@ -86,7 +86,7 @@ impl<T: EnumSetType, P: FnMut(&T) -> bool> EnumSetFilter<T, P> {
     /// left, ascending by bit.
     pub fn count(self) -> usize
         requires { CallableOnAllAt ⟦<EnumSetIter<T> as Iterator>⟧.next_gives P.FnMut (filter_source self) (filter_callee self) }
-        ensures calls { FilterCounts T.elements.bit P.FnMut self result }
+        ensures calls { FilterCounts (steps T.elements.bit) P.FnMut self result }
         ensures selected { CallKeepsClosure P.FnMut (filter_callee self) → (kept : BitSet)
             × Selects T.elements.bit (λ t b. CalledAt P.FnMut (filter_callee self) t b (filter_callee self))
             (left (filter_source self)) kept
@@ -100,7 +100,7 @@ impl<T: EnumSetType, P: FnMut(&T) -> bool> EnumSetFilter<T, P> {
     pub fn collect<B: FromIterator<T>>(self, alloc: B::Alloc) -> Result<B, AllocError>
         requires can { CallableOnAllAt ⟦<EnumSetIter<T> as Iterator>⟧.next_gives P.FnMut (filter_source self) (filter_callee self) }
         requires can_collect { HoldsAlong (filter_steps ⟦<EnumSetIter<T> as Iterator>⟧.next_gives P.FnMut) self B.can_from_iter }
-        ensures calls { FilterCollects T.elements.bit P.FnMut B.is_complete B.from_iter_gives self result }
+        ensures calls { FilterCollects (steps T.elements.bit) P.FnMut B.is_complete B.from_iter_gives self result }
         ensures selected { CallKeepsClosure P.FnMut (filter_callee self) → IfOk result (λ v. B.is_complete v → (kept : BitSet) × (ts : List T)
             × Selects T.elements.bit (λ t b. CalledAt P.FnMut (filter_callee self) t b (filter_callee self))
             (left (filter_source self)) kept

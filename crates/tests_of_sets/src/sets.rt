@@ -7,6 +7,7 @@ mod hashes;
 mod items;
 mod long_texts;
 mod mixed;
+mod mixed_chains;
 mod operators;
 mod texts;
 

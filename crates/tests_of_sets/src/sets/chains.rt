@@ -26,6 +26,11 @@ fn tests_of_elements(rt: HostRuntime) {
         set.iter().find(|t| *t == Letters::B),
     ];
     expect(&rt, "find", found, [Some(Letters::C), None]);
+    let found = [
+        set.iter().rfind(|t| *t != Letters::F),
+        set.iter().rfind(|t| *t == Letters::B),
+    ];
+    expect(&rt, "rfind", found, [Some(Letters::C), None]);
     let places = [
         set.iter().position(|t| t == Letters::F),
         set.iter().position(|t| t == Letters::B),
@@ -40,6 +45,11 @@ fn rest_after_a_test(rt: HostRuntime) {
     expect(&rt, "find", found, Some(Letters::C));
     let rest = [iter.next(), iter.next()];
     expect(&rt, "what is left", rest, [Some(Letters::F), None]);
+    let mut iter = some_letters().iter();
+    let found = iter.rfind(|t| *t != Letters::F);
+    expect(&rt, "rfind", found, Some(Letters::C));
+    let rest = [iter.next_back(), iter.next_back()];
+    expect(&rt, "what is left", rest, [Some(Letters::A), None]);
     let mut iter = some_letters().iter();
     iter.next();
     expect(&rt, "last", iter.last(), Some(Letters::F));

@@ -1,6 +1,6 @@
 use Rattle.enumset_sets.specs.Calls.{FilterCollects, left}
 use Rattle.std.proofs.Common.{refl}
-use Rattle.enumset_sets.proofs.Filters.{collected}
+use Rattle.enumset_sets.specs.Laws.Filters.{bits_collected}
 use Rattle.enumset_sets.proofs.enum_set_filter.EnumSetFilter.collect.Goals as goal
 
 pub collect-requires-clause-can : goal.collect-requires-clause-can
@@ -15,4 +15,4 @@ returns-clause-calls g c = rw (← c.self.view_is) c.collect.ensures.ran
 
 pub returns-clause-selected : goal.returns-clause-selected
 unfolding left
-returns-clause-selected g c = rw (← c.self.view_is) (λ keeps. collected _ _ _ keeps _ refl c.self.invariant.0 _ _ _ c.collect.ensures.ran)
+returns-clause-selected g c = rw (← c.self.view_is) (λ keeps. bits_collected _ _ _ keeps _ refl c.self.invariant.0 _ _ _ c.collect.ensures.ran)

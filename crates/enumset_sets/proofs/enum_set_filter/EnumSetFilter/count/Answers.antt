@@ -1,6 +1,7 @@
 use Rattle.enumset_sets.specs.Calls.{FilterCounts, left}
 use Rattle.std.proofs.Common.{inl, arith, refl}
-use Rattle.enumset_sets.proofs.Filters.{counted}
+use Rattle.enumset_sets.specs.Laws.Calls.{bits_first}
+use Rattle.enumset_sets.specs.Laws.Filters.{counted}
 use Rattle.enumset_sets.proofs.enum_set_filter.EnumSetFilter.count.Goals as goal
 
 pub count-requires-clause-can : goal.count-requires-clause-can
@@ -15,4 +16,4 @@ returns-clause-calls g c = rw (← c.self.view_is) c.count.ensures.ran
 
 pub returns-clause-selected : goal.returns-clause-selected
 unfolding left
-returns-clause-selected g c = rw (← c.self.view_is) (λ keeps. counted _ _ _ keeps _ refl c.self.invariant.0 _ c.count.ensures.ran)
+returns-clause-selected g c = rw (← c.self.view_is) (λ keeps. counted _ _ (bits_first g.T.EnumSetType.elements.bit) _ _ keeps _ refl c.self.invariant.0 _ c.count.ensures.ran)

@@ -1,6 +1,6 @@
 use Rattle.std.proofs.Common.{sym, ◌∙◌}
 use Rattle.enumset_sets.specs.Calls.{left}
-use Rattle.enumset_sets.proofs.Left.{len_left}
+use Rattle.enumset_sets.specs.Laws.Calls.{len_left}
 use Rattle.enumset_sets.proofs.enum_set_iter.EnumSetIter.count.Goals as goal
 
 pub returns : goal.returns

@@ -1,10 +1,10 @@
 use Rattle.enumset_sets.specs.Calls.{FindCalls, left}
-use Rattle.enumset_sets.proofs.Calls.{find_clause}
+use Rattle.enumset_sets.specs.Laws.Calls.{bit_find}
 use Rattle.enumset_sets.proofs.enum_set_iter.EnumSetIter.find.Goals as goal
 
 pub returns-clause-element : goal.returns-clause-element
 unfolding left
-returns-clause-element g c keeps = find_clause _ _ _ _ _ keeps c.learn_left.ensures.ascends _ c.find.ensures.ran
+returns-clause-element g c keeps = bit_find _ _ _ _ _ keeps c.learn_left.ensures.ascends _ c.find.ensures.ran
 
 pub returns-clause-calls : goal.returns-clause-calls
 unfolding FindCalls

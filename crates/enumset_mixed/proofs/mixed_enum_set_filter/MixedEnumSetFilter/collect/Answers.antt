@@ -1,0 +1,19 @@
+use Rattle.std.proofs.Common.{refl}
+use Rattle.enumset_sets.specs.Calls.{FilterCollects, left}
+use Rattle.enumset_mixed.specs.Laws.Items.{items_selected}
+use Rattle.enumset_mixed.proofs.mixed_enum_set_filter.MixedEnumSetFilter.collect.Goals as goal
+
+pub collect-requires-clause-can : goal.collect-requires-clause-can
+collect-requires-clause-can g c = rw c.self.view_is (tt, tt, c.requires.can)
+
+pub collect-requires-clause-can_collect : goal.collect-requires-clause-can_collect
+collect-requires-clause-can_collect g c = rw c.self.view_is c.requires.can_collect
+
+pub returns-clause-calls : goal.returns-clause-calls
+unfolding FilterCollects
+returns-clause-calls g c = rw (← c.self.view_is) c.collect.ensures.ran
+
+pub returns-clause-selected : goal.returns-clause-selected
+unfolding left
+returns-clause-selected g c =
+    rw (← c.self.view_is) (λ keeps. items_selected _ _ _ keeps _ refl c.self.invariant.0 _ _ _ c.collect.ensures.ran)
