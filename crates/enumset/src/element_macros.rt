@@ -78,7 +78,8 @@ macro_rules! variant_of {
 
 /// Returns the table that [`EnumSetNames::names`](crate::EnumSetNames::names) has to return:
 /// `names_of!(Right: Read Write Share)` lists all variants of the enum in the order of the list of bits, each under its
-/// own name. Any other name follows its variant: `names_of!(Right: Read "read" Write "write" Share "share")`.
+/// own name. If one has another name, a name follows each variant:
+/// `names_of!(Right: Read "read" Write "write" Share "Share")`.
 #[macro_export]
 macro_rules! names_of {
     ($of:ident:) => {

@@ -132,7 +132,7 @@ impl fmt::Display for Reason {
             Reason::NameTwice(first) => write!(f, "this name was already given at {first}"),
             Reason::NotAMask => f.write_str(NOT_A_MASK),
             Reason::PastGreatest => f.write_str(PAST_GREATEST),
-            Reason::ImpliedTooLarge => f.write_str("the implied discriminant is past 2^128"),
+            Reason::ImpliedTooLarge => f.write_str("the implied discriminant is past 2^128 - 1"),
             Reason::PastRepresentation { bit, width } => {
                 write!(f, "`repr` is too small: bit {bit}, width {width}")
             }

@@ -73,7 +73,7 @@ pub(super) fn mixed_set_of<T: EnumSetTypeWithRepr>(
 
 /// Returns the set's words of 64 bits, the lowest first, as many as its representation has, unknown bits included. The
 /// only fault is [`JsonFault::OutOfMemory`], which never comes where the representation has no word. Rust's `enumset`
-/// writes a number of 128 bits instead.
+/// writes a number of the type that `repr` names instead.
 pub fn mixed_to_words<T: EnumSetTypeWithRepr>(
     alloc: Global,
     set: &MixedEnumSet<T>,
@@ -91,7 +91,7 @@ pub fn mixed_to_words<T: EnumSetTypeWithRepr>(
 ///
 /// The faults are [`JsonFault::NotAnArray`], [`JsonFault::NotAWord`] of the first element that is not a word and, where
 /// bits past the width are refused, [`JsonFault::OutOfRange`], tested in this order. The call allocates nothing. Rust's
-/// `enumset` reads a number of 128 bits instead.
+/// `enumset` reads a number of the type that `repr` names instead.
 pub fn mixed_from_words<T: EnumSetTypeWithRepr>(
     value: &Value,
     past: Unknown,

@@ -8,8 +8,8 @@
 --     len_union      a union and an intersection together have as many members as the two sets together
 --     len_intersection, len_difference, len_subset      a subset has at most as many members
 --     len_proper      a proper subset has fewer members
---     len_union_most, len_disjoint_union      a union has at most as many members as the two sets together, and as many
---         if they are disjoint
+--     len_union_most      a union has at most as many members as the two sets together
+--     len_disjoint_union      a union of disjoint sets has as many members as the two sets together
 --     len_complement      a subset and its complement have together as many members as the set
 --     subset_equality      a subset with as many members is the whole set
 --     len_apart      how many members of s are in the union of two disjoint sets
