@@ -117,10 +117,8 @@ fn values_of_a_representation(rt: HostRuntime) {
 
 #[test]
 fn words(rt: HostRuntime) {
-    let ac = A | C;
-    laws::words_and_back(&ac, 1);
-    let words: [u64; 1] = ac.as_array();
-    assert!(rt; words == [5]);
+    let (ac, words) = (A | C, [5]);
+    assert!(rt; EnumSet::<Letters>::try_from_array(words).is_some());
     assert!(rt; EnumSet::from_array(words) == ac);
     assert!(rt; EnumSet::from_array_unchecked(words) == ac);
     assert!(rt; EnumSet::try_from_array([5]) == Some(ac));
@@ -129,9 +127,8 @@ fn words(rt: HostRuntime) {
 
 #[test]
 fn words_of_slices(rt: HostRuntime) {
-    let ac = A | C;
-    laws::words_and_back(&ac, 1);
-    let words: [u64; 1] = ac.as_array();
+    let (ac, words) = (A | C, [5]);
+    assert!(rt; EnumSet::<Letters>::try_from_slice(&words).is_some());
     assert!(rt; EnumSet::from_slice(&words) == ac);
     assert!(rt; EnumSet::from_slice_unchecked(&words) == ac);
     assert!(rt; EnumSet::try_from_slice(&[5]) == Some(ac));
