@@ -85,6 +85,7 @@ impl Transition {
     ///
     /// Only the two flags of the rule matter, so it tries the states with what is required and any of the two. The
     /// program does not call it: it carries the theorem that these four states decide about all states.
+    // `kept_iff` is the theorem of this function: what four states decide about all.
     #[tactic(auto, using(crate::proofs::Kept::kept_iff))]
     pub fn keeps(&self, rule: Rule) -> bool
         ensures { IsTrue result ↔ Keeps rule self.now }

@@ -27,7 +27,6 @@ pub fn first_kinds(whole: Part) -> EnumSet<Kind>
 }
 
 /// The kinds of tokens with which a rule of some parts begins.
-#[tactic(auto, using(enumset::specs::Sets::set_laws), unfolding(enumset::specs::FixedPoints::union_over))]
 fn all_leading_kinds(parts: &EnumSet<Part>) -> EnumSet<Kind>
     ensures { result ≡ union_over leading_kinds_of parts.now }
 {
@@ -39,6 +38,7 @@ fn all_leading_kinds(parts: &EnumSet<Part>) -> EnumSet<Kind>
 }
 
 /// The kinds of tokens with which a rule of a part begins.
+// `written_out`: the rows of the table are lists, each written out.
 #[tactic(auto, using(enumset::specs::Sets::set_laws, enumset::specs::Sets::written_out))]
 fn leading_kinds(part: Part) -> EnumSet<Kind>
     ensures { result ≡ leading_kinds_of (part_bit part) }
@@ -50,6 +50,7 @@ fn leading_kinds(part: Part) -> EnumSet<Kind>
 }
 
 /// The parts with which a rule of a part begins.
+// `written_out`: the rows of the table are lists, each written out.
 #[tactic(auto, using(enumset::specs::Sets::set_laws, enumset::specs::Sets::written_out))]
 fn leading_parts(part: Part) -> EnumSet<Part>
     ensures { result ≡ leading_parts_of (part_bit part) }

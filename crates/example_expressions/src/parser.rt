@@ -48,6 +48,7 @@ struct Reader {
 
 impl Reader {
     /// Reads a token, if it is expected.
+    // `closes_open`: if `)` is expected, a parenthesis is open.
     #[tactic(auto, using(crate::proofs::Reading::closes_open))]
     fn read(&mut self, kind: Kind) -> Result<(), Unexpected>
         requires place { self.old.place < 2 ^ 63 }
@@ -75,6 +76,7 @@ impl Reader {
     }
 
     /// The kinds of tokens that are expected.
+    // `written_out`: the clause is a list, written out for each state.
     #[tactic(auto, using(enumset::specs::Sets::written_out))]
     fn expected(&self) -> EnumSet<Kind>
         ensures { result ≡ next_kinds self.now }

@@ -79,7 +79,6 @@ pub fn leading(of: Nonterminal) -> EnumSet<Nonterminal>
 }
 
 /// The tokens that may stand first in a rule of some nonterminals.
-#[tactic(auto, using(enumset::specs::Sets::set_laws), unfolding(enumset::specs::FixedPoints::union_over))]
 pub fn all_leading_tokens(of: &EnumSet<Nonterminal>) -> EnumSet<Token>
     ensures { result ≡ union_over leading_tokens_table of.now }
 {
@@ -143,7 +142,6 @@ pub fn enclosing(of: Nonterminal) -> EnumSet<Nonterminal>
 }
 
 /// The tokens that may stand after some nonterminals within a rule.
-#[tactic(auto, using(enumset::specs::Sets::set_laws), unfolding(enumset::specs::FixedPoints::union_over))]
 pub fn all_following_tokens(of: &EnumSet<Nonterminal>) -> EnumSet<Token>
     ensures { result ≡ union_over following_tokens_table of.now }
 {

@@ -32,7 +32,6 @@ pub fn all_first() -> [EnumSet<Token>; 15]
 
 /// What the sets of all nonterminals say at once of a nonterminal: the tokens that may stand first in a rule of it, and
 /// the sets of the nonterminals that may.
-#[tactic(auto, using(enumset::specs::Sets::set_laws), unfolding(enumset::specs::FixedPoints::gathered))]
 pub fn first_at_once(sets: &[EnumSet<Token>], of: Nonterminal) -> EnumSet<Token>
     ensures { result ≡ gathered leading_tokens_table leading_table sets.now (nonterminal of) }
 {
@@ -40,7 +39,6 @@ pub fn first_at_once(sets: &[EnumSet<Token>], of: Nonterminal) -> EnumSet<Token>
 }
 
 /// The sets of some nonterminals in one.
-#[tactic(auto, using(enumset::specs::Sets::set_laws), unfolding(enumset::specs::FixedPoints::union_over))]
 pub fn sets_of(sets: &[EnumSet<Token>], of: &EnumSet<Nonterminal>) -> EnumSet<Token>
     ensures { result ≡ union_over (set_at sets.now) of.now }
 {
@@ -70,7 +68,6 @@ impl StepForMany<Token> for Flow<'_, '_> {
     ghost step = { λ flow. gathered (row flow.tokens.now) (row flow.sources.now) };
 
     /// Returns the tokens that arise at a nonterminal or stand in the set of one from which it takes.
-    #[tactic(auto, using(enumset::specs::Sets::set_laws), unfolding(enumset::specs::FixedPoints::gathered))]
     fn step(&self, sets: &[EnumSet<Token>], place: usize) -> EnumSet<Token> {
         tokens_at(self.tokens, place) | sets_of(sets, &nonterminals_at(self.sources, place))
     }

@@ -27,7 +27,6 @@ pub fn next(table: &[EnumSet<State>], state: State) -> EnumSet<State>
 }
 
 /// The states that can come directly after some.
-#[tactic(auto, using(enumset::specs::Sets::set_laws), unfolding(enumset::specs::FixedPoints::union_over))]
 pub fn next_of_all(table: &[EnumSet<State>], states: &EnumSet<State>) -> EnumSet<State>
     ensures { result ≡ union_over (row table.now) states.now }
 {

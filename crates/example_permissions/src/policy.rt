@@ -41,6 +41,7 @@ pub fn add_grant(grants: &mut Vec<Grant>, grant: Grant) -> Result<(), AllocError
 // `never_more`.
 impl User {
     /// Gives the user a role. All that was allowed still is.
+    // `on_roles` is about this policy: what more roles grant, and fewer.
     #[tactic(auto, using(crate::proofs::Allowed::on_roles))]
     pub fn assign(&mut self, role: Role)
         ensures roles { self.new
@@ -52,6 +53,7 @@ impl User {
     }
 
     /// Takes a role from the user. Nothing new is allowed afterwards.
+    // `on_roles`: see `assign`.
     #[tactic(auto, using(crate::proofs::Allowed::on_roles))]
     pub fn revoke(&mut self, role: Role)
         ensures roles { self.new
@@ -63,6 +65,7 @@ impl User {
     }
 
     /// Denies the user a right, whatever the roles grant. Nothing new is allowed afterwards.
+    // `members`: the second clause is about any request, right by right.
     #[tactic(auto, using(enumset::specs::Sets::members))]
     pub fn deny(&mut self, right: Right)
         ensures denied { self.new

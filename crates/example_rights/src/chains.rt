@@ -63,6 +63,7 @@ pub fn is_in_each<T: EnumSetType>(sets: &[EnumSet<T>], right: T) -> bool
 }
 
 /// How many of the granted rights are requested or licensed.
+// `decided`: a count by two sets.
 #[tactic(auto, using(enumset::specs::Sets::decided))]
 pub fn useful_count(
     granted: EnumSet<Right>,
@@ -78,6 +79,7 @@ pub fn useful_count(
 }
 
 /// How many of the granted rights are requested and not denied.
+// `decided`: a count by two sets.
 #[tactic(auto, using(enumset::specs::Sets::decided))]
 pub fn permitted_count(
     granted: EnumSet<Right>,
@@ -93,6 +95,7 @@ pub fn permitted_count(
 }
 
 /// How many of the granted rights are neither requested nor denied.
+// `decided`: a count by two sets.
 #[tactic(auto, using(enumset::specs::Sets::decided))]
 pub fn idle_count(
     granted: EnumSet<Right>,

@@ -22,6 +22,7 @@ pub fn is_none_requested(granted: &EnumSet<Right>, requested: &EnumSet<Right>) -
 }
 
 /// How many of the granted rights are requested and licensed.
+// `decided`: a count by two sets.
 #[tactic(auto, using(enumset::specs::Sets::decided))]
 pub fn usable_count(
     granted: EnumSet<Right>,

@@ -1,3 +1,4 @@
 pub mod FoldedSets
+pub mod PartLaws
 pub mod SortedSets
 pub mod StageTexts

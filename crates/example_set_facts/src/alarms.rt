@@ -92,6 +92,7 @@ pub fn muted_or_not(muted: EnumSet<Alarm>) -> EnumSet<Alarm>
 }
 
 /// Takes out the alarms that are cleared, and returns how many they are.
+// `decided` and `counts`: a clause about members and two about how many, after `retain`.
 #[tactic(auto, using(enumset::specs::Sets::decided, enumset::specs::Sets::counts))]
 pub fn clear(active: &mut EnumSet<Alarm>, cleared: &EnumSet<Alarm>) -> usize
     ensures left { active.new ≡ set.retain active.old (λ q. not (set.contains cleared.now q)) }

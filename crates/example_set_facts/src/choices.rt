@@ -49,6 +49,7 @@ pub fn has_one_of(present: &EnumSet<Seat>, candidates: &EnumSet<Seat>) -> bool
 }
 
 /// How many seats three committees have together, if no two share one.
+// `len_disjoint_union`: the members of disjoint sets are added, twice in a row.
 #[tactic(auto, using(enumset::specs::Sets::decided, enumset::specs::Sets::len_disjoint_union))]
 pub fn count_of_three(one: &EnumSet<Seat>, two: &EnumSet<Seat>, three: &EnumSet<Seat>) -> usize
     requires one_two { set.is_disjoint one.now two.now ≡ true }

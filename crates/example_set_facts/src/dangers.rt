@@ -42,6 +42,7 @@ pub fn has_dangerous(granted: EnumSet<Permission>) -> bool
 }
 
 /// How many of a user's permissions are dangerous.
+// `decided`: a count by a test that is a function.
 #[tactic(auto, using(enumset::specs::Sets::decided))]
 pub fn dangerous_count(granted: EnumSet<Permission>) -> usize
     ensures { result ≡ set.len (set.intersection granted dangerous_bits) }

@@ -8,6 +8,7 @@ use crate::seats::Seat;
 use enumset::EnumSet;
 
 /// To how many meetings a seat came.
+// `visits` is a term that stays closed elsewhere.
 #[tactic(auto, using(enumset::specs::Sets::set_laws), unfolding(crate::specs::Meetings::visits))]
 pub fn visits_of(meetings: &[EnumSet<Seat>], of: Seat) -> usize
     ensures { result ≡ visits meetings.now (seat of) }

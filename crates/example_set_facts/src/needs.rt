@@ -27,7 +27,6 @@ pub fn needs_of(of: Feature) -> EnumSet<Feature>
 }
 
 /// What features need, each by itself.
-#[tactic(auto, using(enumset::specs::Sets::set_laws), unfolding(enumset::specs::FixedPoints::union_over))]
 pub fn needed(features: &EnumSet<Feature>) -> EnumSet<Feature>
     ensures { result ≡ union_over needs features.now }
 {
@@ -69,6 +68,7 @@ pub fn needed_in_turn(from: EnumSet<Feature>) -> EnumSet<Feature>
 }
 
 /// The features that need a feature by themselves.
+// `against` is a term that stays closed, and the valid bits are those of its definition.
 #[tactic(auto, using(enumset::specs::Sets::set_laws), unfolding(enumset::specs::Sets::valid_bits, crate::specs::Needs::against))]
 pub fn users_of(of: Feature) -> EnumSet<Feature>
     ensures { result ≡ users (feature of) }

@@ -1,6 +1,6 @@
 //! What permissions cost.
 
-ghost use Rattle.std.specs.Prelude.{◌≡◌, ◌≤◌, sum_by, IfSome, IfNone};
+ghost use Rattle.std.specs.Prelude.{◌≡◌, ◌≤◌, slice_index, sum_by, IfSome, IfNone};
 ghost use Rattle.enumset.specs.Sets as set;
 ghost use Rattle.example_set_facts.specs.Bits.{permission};
 ghost use Rattle.example_set_facts.specs.Prices.{price};
@@ -19,6 +19,13 @@ pub fn price_of(asked: Permission) -> u32
         Permission::Share => 10,
         Permission::Delete => 20,
     }
+}
+
+/// The price of a permission, from a table with a row for each.
+pub fn price_in(prices: &[u32; 5], asked: Permission) -> u32
+    ensures { result ≡ slice_index prices.now (permission asked) }
+{
+    prices[EnumSet::bit_index(asked) as usize]
 }
 
 /// What permissions cost together, if it fits.

@@ -14,6 +14,7 @@ pub fn folded<T: EnumSetType>(elements: &[T]) -> EnumSet<T>
 }
 
 /// The set of the elements of a slice, collected in a loop.
+// `folds`: the invariant is about a list with one more element at its end.
 #[tactic(auto, using(enumset_sets::specs::Laws::Folds::folds))]
 pub fn collected<T: EnumSetType>(elements: &[T]) -> EnumSet<T>
     ensures { result ≡ set.from_list (map T.elements.bit elements.now) }

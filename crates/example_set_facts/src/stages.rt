@@ -75,6 +75,7 @@ impl fmt::Display for Stage {
 }
 
 /// The titles of stages, joined by ` | `.
+// `text_of_stages` is about this text: what `Display` of a stage writes.
 #[tactic(auto, using(crate::proofs::StageTexts::text_of_stages))]
 pub fn shown(alloc: Global, stages: EnumSet<Stage>) -> Result<String, AllocError>
     ensures { IfOk result (λ text. string_bytes text

@@ -1,10 +1,12 @@
 //! Texts of the names of a set's elements, with commas between.
 
-ghost use Rattle.std.specs.Prelude.{◌≡◌, true, map, option_map, position, string_bytes, bytes_eq, IfOk};
+ghost use Rattle.std.specs.Prelude.{◌≡◌, true, not, Some, map, filter_map, find, option_map, position, string_bytes};
+ghost use Rattle.std.specs.Prelude.{bytes_eq, IfOk, IfErr};
+ghost use Rattle.std.specs.List.{list_all};
 ghost use Rattle.enumset.specs.Sets as set;
 ghost use Rattle.enumset.specs.Names.{name_of, names_of};
 ghost use Rattle.example_set_facts.specs.Bits.{permission};
-ghost use Rattle.example_set_facts.specs.Texts.{joined, title, all_titles};
+ghost use Rattle.example_set_facts.specs.Texts.{joined, title, all_titles, titled, is_title, parts};
 
 use crate::permissions::Permission;
 use enumset::{EnumSet, EnumSetNames};
@@ -51,6 +53,20 @@ pub fn titles(alloc: Global, granted: EnumSet<Permission>) -> Result<String, All
         is_first = false;
     }
     Ok(text)
+}
+
+/// The permissions whose titles a text lists, with a comma between each two, or the first text between commas that is
+/// no title.
+pub fn read_titles(text: &str) -> Result<EnumSet<Permission>, &str>
+    ensures granted { IfOk result (λ granted. granted ≡ set.from_list (filter_map titled (parts text.now))) }
+    ensures titles { IfOk result (λ _. list_all is_title (parts text.now) ≡ true) }
+    ensures fault { IfErr result (λ part. find (λ t. not (is_title t)) (parts text.now) ≡ Some part.now) }
+{
+    let mut granted = EnumSet::new();
+    for part in text.split(',') {
+        granted.insert(of_title(part).ok_or(part)?);
+    }
+    Ok(granted)
 }
 
 /// The names of the elements, in the order of their bits, with a comma and a space between.

@@ -26,6 +26,7 @@ impl Weekday {
 }
 
 /// The days on which everybody is free: each day, if there is nobody.
+// `week` is the set of the numbers below 7: `bits_below` has the valid bits as a list.
 #[tactic(auto, using(enumset::specs::Sets::set_laws), unfolding(enumset::specs::Sets::valid_bits))]
 pub fn common_days(schedules: &[EnumSet<Weekday>]) -> EnumSet<Weekday>
     ensures { result ≡ intersection_all week schedules.now }

@@ -5,10 +5,13 @@
 --     summed_at, sum_within      a sum over a set of valid bits is at most the sum over all of them
 --     valid_below      the valid bits as the numbers below a number, where such a set is in sight
 --     valid_retained      the valid bits as a list, where a part of them is in sight
+--     sized_at, valid_within      a valid bit is less than one past the greatest of them, where the length of a list is
+--         in sight
 -- The ruleset `of_valid_bits` has all of them.
-use Rattle.std.proofs.Common.{◌≡◌, ◌≤◌, ◌+◌, ℕ, suc, Bool, true, false, ◌&&◌, List, [], ◌∷◌, length, sum_by, refl, sym, ap, ◌∙◌, arith, ◌==◌, nat_le, nat_lt}
+use Rattle.std.proofs.Common.{◌≡◌, ◌<◌, ◌≤◌, ◌+◌, ℕ, suc, Bool, true, false, true≢false, ◌&&◌, List, [], ◌∷◌, length, sum_by, refl, sym, ap, ◌∙◌, arith, ◌==◌, nat_le, nat_lt}
 use Rattle.std.proofs.lemmas.Bool.Decides.{nat_tests}
-use Rattle.enumset_repr.specs.BitSet.{BitSet, is_in, ascending, from_list, retain, below, is_subset, len}
+use Rattle.enumset_repr.specs.BitSet.{BitSet, is_in, contains, ascending, from_list, retain, below, is_subset, len}
+use Rattle.enumset_repr.specs.Lawful.{one_past_all}
 use Rattle.enumset_repr.specs.Laws.Counting.{len_subset}
 use Rattle.enumset_repr.specs.Laws.Members.{same_set, contains_from_list, contains_below}
 use Rattle.enumset_repr.specs.Laws.Sums.{sum_subset, sum_listed}
@@ -62,4 +65,22 @@ pub valid_retained : {T : Type 0} (elements : Elements T) (p : ℕ → Bool) →
 unfolding valid_bits
 valid_retained elements p = (refl, below_up elements.bit_list, λ _. refl)
 
-pub ruleset of_valid_bits = (len_valid, len_within, summed_at, sum_within, valid_below, valid_retained)
+-- ---- places in a list
+
+-- a call that shows that the length of a list is in sight
+pub sized : Bool → Bool
+sized w = w
+
+pub sized_at : {A : Type 0} (xs : List A) → (length xs ≡ length xs) × (sized true ≡ true)
+unfolding sized
+sized_at xs = (refl, refl)
+
+is_in-within : (q : ℕ) (bs : List ℕ) → is_in q bs ≡ true → q < one_past_all bs
+is_in-within q [] one = absurd (true≢false (sym one))
+is_in-within q (b ∷ bs) one = let rest = is_in-within q bs in grind (arith, nat_tests)
+
+pub valid_within : {T : Type 0} (elements : Elements T) (q : ℕ) (w : Bool) → (contains (valid_bits elements) q ≡ contains (valid_bits elements) q) × (sized w ≡ sized w) × (contains (valid_bits elements) q ≡ true → q < one_past_all elements.bit_list)
+unfolding valid_bits
+valid_within elements q w = (refl, refl, λ valid. is_in-within q elements.bit_list (sym (contains_from_list elements.bit_list q) ∙ valid))
+
+pub ruleset of_valid_bits = (len_valid, len_within, summed_at, sum_within, valid_below, valid_retained, sized_at, valid_within)
